@@ -1,0 +1,9 @@
+pub mod Split
+pub mod Date
+pub mod Time
+pub mod SplitLaws
+pub mod DateLaws
+pub mod MomentLaws
+pub mod FormLaws
+pub mod TimeLaws
+pub mod Examples

@@ -1,0 +1,72 @@
+// Days of the Gregorian calendar.
+ghost use mathlib.Core.Path.{_≡_};
+ghost use Prim.Native.Nat.{_-_, _*_, _≤_};
+ghost use Rattle.calendar.specs.Split.{before};
+ghost use Rattle.calendar.specs.Date.{leapOf, yearLen, monthLen};
+
+// The month lengths; February's is that of a common year.
+const LENGTHS: [u16; 12] = [31, 28, 31, 30, 31, 30, 31, 31, 30, 31, 30, 31];
+
+// The days before each month in a common year.
+const BEFORE: [u16; 12] = [0, 31, 59, 90, 120, 151, 181, 212, 243, 273, 304, 334];
+
+// A number of a table, as a number of days.
+fn wide(x: u16) -> u64
+    ensures { λ r. ⌜ r ≡ x ⌝ }
+{
+    x as u64
+}
+
+// Whether a year is a leap year.
+fn is_leap(y: u64) -> bool
+    ensures { λ r. ⌜ r ≡ leapOf y ⌝ }
+{
+    if y % 4 != 0 {
+        return false;
+    }
+    if y % 100 != 0 {
+        return true;
+    }
+    y % 400 == 0
+}
+
+// The days of month m, from 1 on, of year y.
+pub(crate) fn month_len(y: u64, m: u64) -> u64
+    requires { ⌜ (1 ≤ m) × (m ≤ 12) ⌝ }
+    ensures { λ r. ⌜ (r ≡ monthLen y (m - 1)) × (r ≤ 31) ⌝ }
+{
+    if m == 2 {
+        if is_leap(y) {
+            return 29;
+        }
+        return 28;
+    }
+    let i = (m - 1) as usize;
+    wide(LENGTHS[i])
+}
+
+// The days of year y before month m.
+pub(crate) fn before_month(y: u64, m: u64) -> u64
+    requires { ⌜ (1 ≤ m) × (m ≤ 12) ⌝ }
+    ensures { λ r. ⌜ (r ≡ before (monthLen y) (m - 1)) × (r ≤ 335) ⌝ }
+{
+    let i = (m - 1) as usize;
+    let d = wide(BEFORE[i]);
+    if m < 3 {
+        return d;
+    }
+    if is_leap(y) {
+        return d + 1;
+    }
+    d
+}
+
+// The days from 1970 on before year y: 365 for each year, and a leap day for each fourth year, but
+// for hundredth years only where they are four hundredth. Before 1970 were 492, 19 and 4 of these.
+pub(crate) fn before_year(y: u64) -> u64
+    requires { ⌜ (1970 ≤ y) × (y ≤ 9999) ⌝ }
+    ensures { λ r. ⌜ (r ≡ before yearLen (y - 1970)) × (r ≤ 366 * (y - 1970)) ⌝ }
+{
+    let p = y - 1;
+    365 * (y - 1970) + (p / 4 - 492) - (p / 100 - 19) + (p / 400 - 4)
+}

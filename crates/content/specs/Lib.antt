@@ -1,0 +1,5 @@
+pub mod Oid
+pub mod OidLaws
+pub mod Serial
+pub mod SerialLaws
+pub mod Examples

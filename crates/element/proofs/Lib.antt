@@ -1,0 +1,3 @@
+pub mod TagCases
+pub mod HeadCases
+pub mod WriteCases

@@ -1,0 +1,9 @@
+pub mod Tag
+pub mod Length
+pub mod LengthLaws
+pub mod Header
+pub mod HeaderFound
+pub mod Form
+pub mod FormLaws
+pub mod HeaderLaws
+pub mod Examples

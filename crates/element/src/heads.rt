@@ -1,0 +1,77 @@
+// The header of an element, read at the head of a lent part.
+use crate::Header;
+use crate::lengths;
+use crate::tags;
+ghost use mathlib.Core.Path.{_≡_};
+ghost use Prim.Native.Nat.{_≤_};
+ghost use lib.ListN.{length, getD};
+ghost use Rattle.element.specs.Header.{insideOf, longOf, headerOf};
+
+// The element ends inside the size octets that hold it.
+fn inside(size: usize, tag: u8, start: usize, len: usize) -> Header
+    requires { ⌜ start ≤ size ⌝ }
+    ensures { λ r. ⌜ r ≡ insideOf size tag start len ⌝ }
+{
+    if len <= size - start {
+        Header::Found { tag, start, len }
+    } else {
+        Header::Refused(0)
+    }
+}
+
+// A length of k more octets.
+fn long_header(s: &[u8], tag: u8, k: usize) -> Header
+    requires { ⌜ k ≤ 8 ⌝ }
+    ensures { λ r. ⌜ r ≡ longOf (now (s .entry)) tag k ⌝ }
+{
+    let start = 2 + k;
+    if s.len() < start {
+        return Header::Refused(s.len());
+    }
+    let octets::Number::Is(n) = octets::number_at(s, 2, k) else {
+        return Header::Refused(0);
+    };
+    if lengths::is_shortest(k, n) {
+        return inside(s.len(), tag, start, n as usize);
+    }
+    Header::Refused(0)
+}
+
+// A part of fewer than two octets holds no header.
+fn cut_header(s: &[u8]) -> Header
+    requires { ⌜ length (now s) ≤ 1 ⌝ }
+    ensures { λ r. ⌜ r ≡ headerOf (now (s .entry)) ⌝ }
+{
+    if s.len() == 0 {
+        return Header::Refused(0);
+    }
+    let tag = s[0];
+    if tags::tag_fits(tag) {
+        return Header::Refused(s.len());
+    }
+    Header::Refused(0)
+}
+
+// The tag and the length at the head of s.
+pub fn read_header(s: &[u8]) -> Header
+    ensures { λ r. ⌜ r ≡ headerOf (now (s .entry)) ⌝ }
+{
+    if s.len() < 2 {
+        return cut_header(s);
+    }
+    let tag = s[0];
+    if tags::tag_fits(tag) {
+        let first = s[1];
+        if first < 128 {
+            return inside(s.len(), tag, 2, first as usize);
+        }
+        if first == 128 {
+            return Header::Refused(0);
+        }
+        if 136 < first {
+            return Header::Refused(0);
+        }
+        return long_header(s, tag, (first - 128) as usize);
+    }
+    Header::Refused(0)
+}

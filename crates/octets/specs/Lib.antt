@@ -1,0 +1,9 @@
+pub mod Octets
+pub mod OctetsLaws
+pub mod Number
+pub mod NumberLaws
+pub mod Same
+pub mod SameLaws
+pub mod Buffer
+pub mod BufferLaws
+pub mod Examples
