@@ -1,0 +1,101 @@
+//! `cases`: makes streams of cases and gives this reader's answers to them.
+
+use std::io::{self, Read, Write};
+use std::path::Path;
+use std::process::ExitCode;
+
+use second_reader::cases::answers::{line, place_line, Counts};
+use second_reader::cases::record::{read_stream, Record};
+use second_reader::cases::{generate, published, table};
+use second_reader::hex;
+
+const USE: &str = "cases published DIR            a stream of cases about the *.der in DIR
+cases mutated DIR SEED COUNT   the same responses with octets damaged
+cases generate SEED COUNT      cases made from a seed
+cases answers < STREAM         one line of answer for each case
+cases places < STREAM          the place for each desk case that gives 3, else -
+cases counts < STREAM          how often each outcome comes
+cases show INDEX < STREAM      one case in hex, with its answer and place
+cases table DIR                the table of published responses";
+
+fn main() -> ExitCode {
+    let arguments: Vec<String> = std::env::args().skip(1).collect();
+    let words: Vec<&str> = arguments.iter().map(String::as_str).collect();
+    match run(&words) {
+        Ok(()) => ExitCode::SUCCESS,
+        Err(message) => {
+            eprintln!("{message}");
+            ExitCode::FAILURE
+        }
+    }
+}
+
+fn run(words: &[&str]) -> Result<(), String> {
+    match words {
+        ["published", folder] => {
+            let all = published::read_folder(Path::new(folder))?;
+            write_stream(all.iter().flat_map(|one| published::records(&one.octets)))
+        }
+        ["mutated", folder, seed, count] => {
+            let all = published::read_folder(Path::new(folder))?;
+            let seed = number(seed)?;
+            write_stream((0..number(count)?).map(|index| published::mutated(&all, seed, index)))
+        }
+        ["generate", seed, count] => {
+            let seed = number(seed)?;
+            write_stream((0..number(count)?).map(|index| generate::case(seed, index)))
+        }
+        ["answers"] => write_lines(line),
+        ["places"] => write_lines(|record| Ok(place_line(record))),
+        ["counts"] => {
+            let mut counts = Counts::default();
+            read_input()?.iter().for_each(|record| counts.add(record));
+            print!("{}", counts.text());
+            Ok(())
+        }
+        ["show", index] => {
+            let records = read_input()?;
+            let record = records.get(number(index)? as usize).ok_or("there is no such case")?;
+            println!("operation {:02x}, {} octets", record.operation, record.body.len());
+            println!("{}", hex::write(&record.body));
+            println!("answer {}\nplace {}", line(record)?, place_line(record));
+            Ok(())
+        }
+        ["table", folder] => {
+            print!("{}", table::text(Path::new(folder))?);
+            Ok(())
+        }
+        _ => Err(USE.to_string()),
+    }
+}
+
+fn number(word: &str) -> Result<u64, String> {
+    word.parse().map_err(|_| format!("{word} is no number"))
+}
+
+/// Writes a stream to standard output and its counts to standard error.
+fn write_stream(records: impl Iterator<Item = Record>) -> Result<(), String> {
+    let mut output = io::BufWriter::new(io::stdout().lock());
+    let mut counts = Counts::default();
+    for record in records {
+        output.write_all(&record.octets()).map_err(|error| error.to_string())?;
+        counts.add(&record);
+    }
+    output.flush().map_err(|error| error.to_string())?;
+    eprint!("{}", counts.text());
+    Ok(())
+}
+
+fn read_input() -> Result<Vec<Record>, String> {
+    let mut octets = Vec::new();
+    io::stdin().lock().read_to_end(&mut octets).map_err(|error| error.to_string())?;
+    read_stream(&octets)
+}
+
+fn write_lines(answer: impl Fn(&Record) -> Result<String, String>) -> Result<(), String> {
+    let mut output = io::BufWriter::new(io::stdout().lock());
+    for record in read_input()? {
+        writeln!(output, "{}", answer(&record)?).map_err(|error| error.to_string())?;
+    }
+    output.flush().map_err(|error| error.to_string())
+}

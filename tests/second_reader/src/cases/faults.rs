@@ -1,0 +1,233 @@
+//! Faults: what makes the check refuse with each number.
+
+use super::prng::Rng;
+use super::random;
+use super::scene::{self, Scene};
+use crate::desk;
+use crate::oid;
+use crate::piece::Piece;
+use crate::question::Card;
+use crate::reading::{Extension, Responder, Status};
+use crate::time;
+use crate::write;
+
+/// Puts the fault of a number from 6 to 16 into a scene.
+pub fn put(rng: &mut Rng, scene: &mut Scene, number: u8) {
+    // Once no entry is left there is none to put a fault into.
+    if number >= 10 && scene.reading.entries.is_empty() {
+        return;
+    }
+    match number {
+        6 => scene.question.verdict = *rng.pick(&[0, 2]),
+        7 => other_signer(rng, scene),
+        8 => {
+            scene.question.role = 2;
+            scene.question.marks = rng.below(7) as u8;
+        }
+        9 => {
+            let odd = unknown_critical(rng, &oid::ARCHIVE_CUTOFF, &scene::KNOWN_IN_RESPONSE);
+            add_extension(rng, &mut scene.reading.extensions, odd);
+        }
+        10 => {
+            if rng.once_in(6) {
+                scene.reading.entries.remove(scene.target);
+                scene.target = 0;
+            } else {
+                scene::miss(rng, scene.entry());
+            }
+        }
+        11 => second_entry(rng, scene),
+        12 => {
+            let from_response = if rng.once_in(2) { &oid::NONCE } else { &oid::EXTENDED_REVOKE };
+            let odd = unknown_critical(rng, from_response, &scene::KNOWN_IN_ENTRY);
+            add_extension(rng, &mut scene.entry().extensions, odd);
+        }
+        13 => scene.entry().next_update = None,
+        14 => {
+            let entry = scene.entry();
+            entry.this_update = entry.this_update.max(1);
+            let back = *rng.pick(&[1, 1, 60, 86_400, u64::MAX]);
+            entry.next_update = Some(entry.this_update.saturating_sub(back));
+        }
+        15 => {
+            let entry = scene.entry();
+            entry.this_update = entry.this_update.max(1);
+            entry.next_update = entry.next_update.map(|next| next.max(entry.this_update));
+            let this_update = entry.this_update;
+            let back = *rng.pick(&[1, 1, 60, 3_600, u64::MAX]);
+            scene.question.now = this_update.saturating_sub(back);
+        }
+        16 => {
+            let tolerance = scene.question.tolerance;
+            let entry = scene.entry();
+            let latest = time::LAST - tolerance - 1;
+            let next = entry.next_update.unwrap_or(0).min(latest);
+            entry.this_update = entry.this_update.min(next);
+            entry.next_update = Some(next);
+            let past = *rng.pick(&[1, 1, 2, 60, 3_600, 1_000_000]);
+            scene.question.now = (next + tolerance + past).min(time::LAST);
+        }
+        _ => panic!("no fault of a scene has number {number}"),
+    }
+}
+
+fn other_signer(rng: &mut Rng, scene: &mut Scene) {
+    let question = &mut scene.question;
+    match &scene.reading.responder {
+        Responder::ByKey(_) => rng.flip(&mut question.signer_key_hash),
+        Responder::ByName(_) => match rng.below(5) {
+            0 => question.signer_name.clear(),
+            1 => {
+                question.signer_name.pop();
+            }
+            2 if question.signer_name.len() < 256 => question.signer_name.push(0),
+            _ => rng.flip(&mut question.signer_name),
+        },
+    }
+}
+
+/// A critical extension not understood here: one that is understood elsewhere,
+/// or a random one.
+fn unknown_critical(rng: &mut Rng, elsewhere: &[u8], known: &[&[u8]]) -> Extension {
+    let mut oid = elsewhere.to_vec();
+    if !rng.once_in(3) {
+        oid = random::oid_content(rng);
+        while known.contains(&oid.as_slice()) {
+            oid = random::oid_content(rng);
+        }
+    }
+    Extension { oid, critical: true, value: rng.octets(3) }
+}
+
+/// Adds an extension, in place of one with the same OID.
+fn add_extension(rng: &mut Rng, list: &mut Option<Vec<Extension>>, extension: Extension) {
+    let list = list.get_or_insert_with(Vec::new);
+    list.retain(|other| other.oid != extension.oid);
+    list.truncate(15);
+    list.insert(rng.below(list.len() + 1), extension);
+}
+
+/// A second entry for the card, and sometimes a third.
+fn second_entry(rng: &mut Rng, scene: &mut Scene) {
+    for _ in 0..if rng.once_in(4) { 2 } else { 1 } {
+        let mut second = scene.entry().clone();
+        if rng.once_in(2) {
+            second.status = scene::status(rng);
+        }
+        if rng.once_in(2) {
+            second.id.algorithm = scene::sha_1(rng);
+        }
+        if rng.once_in(4) {
+            second.next_update = None;
+        }
+        let entries = &mut scene.reading.entries;
+        let at = rng.below(entries.len() + 1);
+        entries.insert(at, second);
+        if at <= scene.target {
+            scene.target += 1;
+        }
+    }
+}
+
+/// Refusal 1 by a question out of range; the desk's input is made from it.
+pub fn question_out_of_range(rng: &mut Rng, scene: &Scene, response: &[u8]) -> Vec<u8> {
+    let mut scene = scene.clone();
+    let question = &mut scene.question;
+    let card = question.card.clone();
+    let serial = |content: &[u8]| Card::new(card.name_hash, card.key_hash, content);
+    let mut kind_of_fill = None;
+    match rng.below(14) {
+        0 => {
+            let contents: [&[u8]; 6] = [&[], &[0x80], &[0xFF], &[0, 0], &[0, 0x7F], &[0x80, 1]];
+            let content = *rng.pick(&contents);
+            question.card = serial(content);
+        }
+        1 => question.card.serial_length = *rng.pick(&[0, 21, 22, 64, 128, 255]),
+        2 => question.card.serial_length = rng.octet(),
+        3 => question.now = *rng.pick(&[time::LAST + 1, time::LAST + 2, 1 << 63, u64::MAX]),
+        4 => question.tolerance = *rng.pick(&[3_601, 3_602, 4_096, 65_535]),
+        5 => question.verdict = *rng.pick(&[3, 4, 128, 255]),
+        6 => question.role = *rng.pick(&[0, 4, 5, 255]),
+        7 => question.marks = *rng.pick(&[8, 9, 15, 128, 255]),
+        // The rest is in the octets.
+        other => kind_of_fill = Some(other),
+    }
+    let mut input = desk::put_together(question, response);
+    match kind_of_fill {
+        Some(8) => {
+            let length = *rng.pick(&[0, 1, 60, 62, 96, 351, 352]);
+            input.truncate(length);
+        }
+        Some(9) => input[0] = *rng.pick(&[0x00, 0x01, 0x04, 0x50, 0x52, 0xD1]),
+        // Fill of the serial.
+        Some(10 | 11) => {
+            let length = usize::from(input[41]);
+            if length < 20 {
+                input[42 + rng.between(length, 19)] = *rng.pick(&[1, 0x80, 0xFF]);
+            } else {
+                input[42] = 0x80;
+            }
+        }
+        // Fill of the Name.
+        Some(12) => {
+            let length = usize::from(u16::from_be_bytes([input[95], input[96]]));
+            if length < 256 {
+                input[97 + rng.between(length, 255)] = *rng.pick(&[1, 0x80, 0xFF]);
+            } else {
+                input[96] = 1;
+            }
+        }
+        // A Name above 256 octets.
+        Some(_) => {
+            let length: u16 = *rng.pick(&[257, 258, 512, 32_768, 65_535]);
+            input[95..97].copy_from_slice(&length.to_be_bytes());
+        }
+        None => {}
+    }
+    input
+}
+
+/// Refusal 4: an error response.
+pub fn error_response(rng: &mut Rng) -> Piece {
+    write::error_response(*rng.pick(&[1, 2, 3, 5, 6]))
+}
+
+/// Refusal 5: another type, with the basic response or anything inside.
+pub fn other_type(rng: &mut Rng, scene: &Scene) -> Piece {
+    let mut kind = random::oid_content(rng);
+    while kind == oid::BASIC {
+        kind = random::oid_content(rng);
+    }
+    let inner = match rng.below(3) {
+        0 => vec![],
+        1 => vec![Piece::Raw(rng.octets(7))],
+        _ => vec![write::basic(&scene.reading)],
+    };
+    write::envelope(&kind, inner)
+}
+
+/// Makes the response as long as this, by its signature, as far as it goes.
+pub fn stretch(scene: &mut Scene, octets: usize) {
+    for _ in 0..4 {
+        let now = write::response(&scene.reading).octets().len();
+        let signature = &mut scene.reading.signature;
+        let wanted = (signature.len() + octets).saturating_sub(now).max(1);
+        signature.resize(wanted, 0x5A);
+    }
+}
+
+/// Sets the status to one kind.
+pub fn set_status(rng: &mut Rng, scene: &mut Scene, kind: usize) {
+    let status = match kind {
+        0 => Status::Good,
+        1 => Status::Unknown,
+        _ => {
+            let mut status = scene::status(rng);
+            while !matches!(status, Status::Revoked { .. }) {
+                status = scene::status(rng);
+            }
+            status
+        }
+    };
+    scene.entry().status = status;
+}

@@ -1,0 +1,18 @@
+//! The cases that are run against another program: how they are written down
+//! (`record`), what this reader answers (`answers`), and how they are made.
+
+pub mod aim;
+pub mod answers;
+pub mod damage;
+pub mod edges;
+pub mod faults;
+pub mod generate;
+pub mod odd;
+pub mod paths;
+pub mod prng;
+pub mod published;
+pub mod random;
+pub mod record;
+pub mod scene;
+pub mod small;
+pub mod table;
