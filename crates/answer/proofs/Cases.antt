@@ -1,0 +1,91 @@
+-- What the code knows at each return and in each turn, and what follows there.
+-- zero-next, zero-stop, zero-end; inside, counted; field-long, field-serial, field-fill; card-name, card-key,
+-- card-serial, card-size.
+-- Assumes nothing.
+use Prim.Native.Nat.{ℕ, _+_, _-_, _<_, _≤_}
+use native.Mathlib.Numerals.{add-one}
+use native.Mathlib.Omega.{arith}
+use mathlib.Core.Path.{_≡_, sym, ap, _∙_}
+use mathlib.Core.Bool.{Bool, true, false, cond, not}
+use mathlib.Core.List.{List}
+use lib.Dec.{eqb}
+use lib.ListN.{length, getD, take, drop, drop-of-length-le, length-drop}
+use lib.Seq.{drop-cons, length-take-le, take-all}
+use borrow.Author.Tests.{eq-eqb, ne-eqb, le-leb, lt-leb, not-true, not-false}
+use Rattle.octets.specs.Same.{sameOf}
+use Rattle.content.specs.Serial.{serialOk}
+use Rattle.answer.specs.declared.Card.{Card}
+use Rattle.answer.specs.Card.{allZero, fieldOk, sameHashes, sameCard}
+
+-- ---- octets are tested for zeros: the answer is that of the rest
+
+module _ (s : List ℕ) (i : ℕ) (p : allZero s ≡ allZero (drop i s)) where
+  step : i < length s → allZero s ≡ cond (eqb (getD s i 0) 0) (allZero (drop (i + 1) s)) false
+  unfolding allZero
+  step h = p ∙ rw (add-one i, drop-cons s i 0 h)
+
+  -- a zero here
+  pub zero-next : i < length s → getD s i 0 ≡ 0 → allZero s ≡ allZero (drop (i + 1) s)
+  zero-next h e = step h ∙ rw (eq-eqb (getD s i 0) 0 e)
+
+  -- another octet here
+  pub zero-stop : i < length s → (getD s i 0 ≡ 0 → ⊥) → false ≡ allZero s
+  zero-stop h e = sym (step h ∙ rw (ne-eqb (getD s i 0) 0 e))
+
+  -- at the end
+  pub zero-end : length s ≤ i → true ≡ allZero s
+  unfolding allZero
+  zero-end h = sym (p ∙ rw (drop-of-length-le s h))
+
+-- ---- a serial in its field, of which the code knows the length
+
+module _ (field : List ℕ) (n : ℕ) (l : length field ≡ n) (size : ℕ) (h : size ≤ n) where
+  pub inside : size ≤ length field
+  inside = omega arith
+
+  pub counted : size ≡ length (take size field)
+  counted = sym (length-take-le size field inside)
+
+module _ (size : ℕ) (field : List ℕ) where
+  -- a serial of more than twenty octets
+  pub field-long : 20 < size → false ≡ fieldOk size field
+  unfolding fieldOk
+  field-long h = sym (rw (lt-leb size 20 h))
+
+  module _ (h : size ≤ 20) (r : Bool) (p : r ≡ serialOk (take size field)) where
+    -- the serial rule is broken
+    pub field-serial : not r ≡ true → false ≡ fieldOk size field
+    unfolding fieldOk
+    field-serial t = sym (rw (le-leb size 20 h, ← p, not-true r t))
+
+    -- it is kept: the fill decides
+    pub field-fill : not r ≡ false → length field ≡ 20 → (z : Bool) → z ≡ allZero (take (20 - size) (drop size field)) → z ≡ fieldOk size field
+    unfolding fieldOk
+    field-fill t l z e =
+        let whole : take (20 - size) (drop size field) ≡ drop size field = take-all (20 - size) (drop size field) (simp length-drop (omega arith)) in
+        sym (rw (le-leb size 20 h, ← p, not-false r t) (sym (e ∙ ap allZero whole)))
+
+-- ---- two cards, field by field
+
+module _ (a b : Card) (n : Bool) (p : n ≡ sameOf (a .name) (b .name)) where
+  -- the name hashes are not equal
+  pub card-name : not n ≡ true → false ≡ sameCard a b
+  unfolding sameCard sameHashes
+  card-name t = sym (rw (← p, not-true n t))
+
+  module _ (u : not n ≡ false) (k : Bool) (q : k ≡ sameOf (a .key) (b .key)) where
+    -- the key hashes are not
+    pub card-key : not k ≡ true → false ≡ sameCard a b
+    unfolding sameCard sameHashes
+    card-key t = sym (rw (← p, not-false n u, ← q, not-true k t))
+
+    module _ (v : not k ≡ false) (s : Bool) (r : s ≡ sameOf (a .serial) (b .serial)) where
+      -- the serials' fields are not
+      pub card-serial : not s ≡ true → false ≡ sameCard a b
+      unfolding sameCard sameHashes
+      card-serial t = sym (rw (← p, not-false n u, ← q, not-false k v, ← r, not-true s t))
+
+      -- all three are: the sizes decide
+      pub card-size : not s ≡ false → eqb (a .size) (b .size) ≡ sameCard a b
+      unfolding sameCard sameHashes
+      card-size w = sym (rw (← p, not-false n u, ← q, not-false k v, ← r, not-false s w))

@@ -1,0 +1,5 @@
+pub mod Card
+pub mod CardLaws
+pub mod Verdict
+pub mod VerdictLaws
+pub mod Examples

@@ -1,0 +1,67 @@
+// The card: the empty one, one judged, two compared.
+use crate::Card;
+ghost use mathlib.Core.Path.{_≡_};
+ghost use Rattle.answer.specs.Card.{allZero, cardOk, emptyCard, sameCard};
+
+// The card that a refusal hands out.
+pub fn empty_card() -> Card
+    ensures { λ r. ⌜ r ≡ emptyCard ⌝ }
+{
+    Card {
+        name: [0; 20],
+        key: [0; 20],
+        serial: [0; 20],
+        size: 0,
+    }
+}
+
+// Whether all of these octets are zeros, as a fill must be.
+pub fn all_zero(s: &[u8]) -> bool
+    ensures { λ r. ⌜ r ≡ allZero (now (s .entry)) ⌝ }
+{
+    let mut i = 0;
+    while i < s.len() {
+        if s[i] != 0 {
+            return false;
+        }
+        i += 1;
+    }
+    true
+}
+
+// Whether the card's serial keeps the serial rule and its fill is zeros.
+pub fn card_fits(card: Card) -> bool
+    ensures { λ r. ⌜ r ≡ cardOk card ⌝ }
+{
+    let size = card.size;
+    if 20 < size {
+        return false;
+    }
+    let serial = card.serial;
+    if !content::serial_fits(&serial[..size]) {
+        return false;
+    }
+    all_zero(&serial[size..])
+}
+
+// Whether two cards are one: both hashes, the serial's field and its size.
+pub fn same_card(a: Card, b: Card) -> bool
+    ensures { λ r. ⌜ r ≡ sameCard a b ⌝ }
+{
+    let name = a.name;
+    let other = b.name;
+    if !octets::same20(name, other) {
+        return false;
+    }
+    let key = a.key;
+    let other = b.key;
+    if !octets::same20(key, other) {
+        return false;
+    }
+    let serial = a.serial;
+    let other = b.serial;
+    if !octets::same20(serial, other) {
+        return false;
+    }
+    a.size == b.size
+}

@@ -1,0 +1,2 @@
+pub mod CountTurns
+pub mod EntryCases

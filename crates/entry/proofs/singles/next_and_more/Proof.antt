@@ -1,0 +1,68 @@
+-- `entry::singles::next_and_more` meets its contract, by the first octet, nextUpdate and what follows it.
+-- Assumes nothing.
+use borrow.Author.Needs.{needs}
+use Rattle.layout.specs.Format.{nextUpdate}
+use Rattle.cert.specs.SeqCases.{field-wrong, field-end, field-after, option-there, option-missing}
+use Rattle.entry.specs.Tails.{extensionsOn, nextOn}
+use Rattle.entry.proofs.singles.next_and_more.Statement.{statement}
+use Rattle.entry.proofs.singles.next_and_more.Tie as tie
+
+starts-with-requires : tie.Need-starts-with-requires
+starts-with-requires c κs = search needs
+
+read-next-requires : tie.Need-read-next-requires
+read-next-requires c κs = search needs
+
+enum-known-next : tie.Need-enum-known-next
+enum-known-next c = search needs
+
+enum-known-next-2 : tie.Need-enum-known-next-2
+enum-known-next-2 c = search needs
+
+sub-extensions-maybe : tie.Need-sub-extensions-maybe
+sub-extensions-maybe c = search (field-end nextUpdate)
+
+part-extensions-maybe-start : tie.Need-part-extensions-maybe-start
+part-extensions-maybe-start c = search (field-end nextUpdate)
+
+part-extensions-maybe-end : tie.Need-part-extensions-maybe-end
+part-extensions-maybe-end c = search needs
+
+extensions-maybe-requires : tie.Need-extensions-maybe-requires
+extensions-maybe-requires c κs = search needs
+
+after-requires : tie.Need-after-requires
+after-requires c κs = search needs
+
+extensions-maybe-requires-2 : tie.Need-extensions-maybe-requires-2
+extensions-maybe-requires-2 c κs = search needs
+
+returns : tie.Need-returns
+unfolding nextOn
+returns c = search (option-there 0xa0 nextUpdate extensionsOn, field-wrong nextUpdate)
+
+returns-2 : tie.Need-returns-2
+unfolding nextOn
+returns-2 c = search (option-there 0xa0 nextUpdate extensionsOn, field-after nextUpdate extensionsOn)
+
+returns-3 : tie.Need-returns-3
+unfolding nextOn
+returns-3 c = search (option-missing 0xa0 nextUpdate extensionsOn)
+
+pub next-and-more-spec : {M : Type 1} → statement M
+next-and-more-spec =
+    tie.close
+    (tie.spec
+    starts-with-requires
+    read-next-requires
+    enum-known-next
+    enum-known-next-2
+    sub-extensions-maybe
+    part-extensions-maybe-start
+    part-extensions-maybe-end
+    extensions-maybe-requires
+    after-requires
+    extensions-maybe-requires-2
+    returns
+    returns-2
+    returns-3)

@@ -1,0 +1,5 @@
+pub mod Around
+pub mod NameCases
+pub mod BodyCases
+pub mod Named
+pub mod ListCases

@@ -1,0 +1,72 @@
+-- `extension::list::read_extensions` meets its contract, by the header and by what it holds.
+-- Assumes nothing.
+use borrow.Author.Needs.{needs}
+use Rattle.layout.specs.Format.{extensions}
+use Rattle.extension.specs.Pieces.{held}
+use Rattle.extension.proofs.Around.{around-wrong, around-end, around-sum, around-place, around-fits, around-breaks}
+use Rattle.extension.proofs.list.read_extensions.Statement.{statement}
+use Rattle.extension.proofs.list.read_extensions.Tie as tie
+
+expect-requires : tie.Need-expect-requires
+expect-requires c κs = search needs
+
+enum-known-spot : tie.Need-enum-known-spot
+enum-known-spot c = search needs
+
+enum-known-spot-2 : tie.Need-enum-known-spot-2
+enum-known-spot-2 c = search needs
+
+add-end : tie.Need-add-end
+add-end c = search around-sum
+
+sub-read-held : tie.Need-sub-read-held
+sub-read-held c = search needs
+
+part-read-held-start : tie.Need-part-read-held-start
+part-read-held-start c = search needs
+
+part-read-held-end : tie.Need-part-read-held-end
+part-read-held-end c = search around-end
+
+read-held-requires : tie.Need-read-held-requires
+read-held-requires c κs = search needs
+
+enum-told : tie.Need-enum-told
+enum-told c = search needs
+
+enum-known-fit : tie.Need-enum-known-fit
+enum-known-fit c = search needs
+
+add-place : tie.Need-add-place
+add-place c = search around-place
+
+returns : tie.Need-returns
+unfolding extensions
+returns c = search around-wrong
+
+returns-2 : tie.Need-returns-2
+unfolding extensions held
+returns-2 c = search around-fits
+
+returns-3 : tie.Need-returns-3
+unfolding extensions held
+returns-3 c = search around-breaks
+
+pub read-extensions-spec : {M : Type 1} → statement M
+read-extensions-spec =
+    tie.close
+    (tie.spec
+    expect-requires
+    enum-known-spot
+    enum-known-spot-2
+    add-end
+    sub-read-held
+    part-read-held-start
+    part-read-held-end
+    read-held-requires
+    enum-told
+    enum-known-fit
+    add-place
+    returns
+    returns-2
+    returns-3)

@@ -1,0 +1,3 @@
+pub mod Fresh
+pub mod FreshLaws
+pub mod Examples

@@ -1,0 +1,7 @@
+pub mod Match
+pub mod Matched
+pub mod CertForm
+pub mod Known
+pub mod CertFormLaws
+pub mod MatchLaws
+pub mod Examples

@@ -1,0 +1,79 @@
+// A CertID's octets compared with a card's.
+use answer::Card;
+ghost use mathlib.Core.Path.{_≡_};
+ghost use Prim.Native.Nat.{_<_, min};
+ghost use lib.ListN.{length};
+ghost use Rattle.octets.specs.Same.{sameOf};
+ghost use Rattle.element.specs.Form.{formOf};
+ghost use Rattle.matching.specs.CertForm.{cardForm, isCard};
+
+// Whether these octets are an element with this tag, and this content of fewer than 128 octets.
+fn is_element(s: &[u8], tag: u8, content: &[u8]) -> bool
+    requires { ⌜ length (now content) < 128 ⌝ }
+    ensures { λ r. ⌜ r ≡ sameOf (now (s .entry)) (formOf tag (now (content .entry))) ⌝ }
+{
+    let size = content.len();
+    if s.len() != size + 2 {
+        return false;
+    }
+    if s[0] != tag {
+        return false;
+    }
+    if s[1] as usize != size {
+        return false;
+    }
+    octets::same(&s[2..], content)
+}
+
+// Whether these octets are an algorithm identifier, then both hashes and the serial. The length comes
+// first, then the serial: most entries of a response are for other cards of the same issuer.
+fn has_form(part: &[u8], head: &[u8], name: &[u8], key: &[u8], serial: &[u8]) -> bool
+    requires { ⌜ (length (now head) < 128) × (length (now name) < 128) × (length (now key) < 128) × (length (now serial) < 128) ⌝ }
+    ensures { λ r. ⌜ r ≡ sameOf (now (part .entry)) (cardForm (now (head .entry)) (now (name .entry)) (now (key .entry)) (now (serial .entry))) ⌝ }
+{
+    let name_at = head.len();
+    let key_at = name_at + 2 + name.len();
+    let serial_at = key_at + 2 + key.len();
+    let end = serial_at + 2 + serial.len();
+    if part.len() != end {
+        return false;
+    }
+    if !is_element(&part[serial_at..end], 0x02, serial) {
+        return false;
+    }
+    if !is_element(&part[name_at..key_at], 0x04, name) {
+        return false;
+    }
+    if !is_element(&part[key_at..serial_at], 0x04, key) {
+        return false;
+    }
+    octets::same(&part[0..name_at], head)
+}
+
+// How many octets of a field of twenty are the serial's.
+fn serial_size(size: usize) -> usize
+    ensures { λ r. ⌜ r ≡ min size 20 ⌝ }
+{
+    if size < 20 {
+        return size;
+    }
+    20
+}
+
+// Whether these octets are the content of a CertID for the card: SHA-1 without parameters or with
+// 05 00, both hashes and the serial.
+pub fn is_card(part: &[u8], card: Card) -> bool
+    ensures { λ r. ⌜ r ≡ isCard card (now (part .entry)) ⌝ }
+{
+    let name = card.name;
+    let key = card.key;
+    let field = card.serial;
+    let size = serial_size(card.size);
+    let serial = &field[..size];
+    let plain = b"\x30\x07\x06\x05\x2b\x0e\x03\x02\x1a";
+    if has_form(part, plain, &name, &key, serial) {
+        return true;
+    }
+    let null = b"\x30\x09\x06\x05\x2b\x0e\x03\x02\x1a\x05\x00";
+    has_form(part, null, &name, &key, serial)
+}

@@ -1,0 +1,5 @@
+pub mod Lent
+pub mod SignedCases
+pub mod TailCases
+pub mod BasicCases
+pub mod JudgeCases

@@ -1,0 +1,210 @@
+-- The cases of the readers of the signed part's content.
+-- Assumes nothing.
+use Prim.Native.Nat.{ℕ, _+_, _-_, _^_, _≤_, _<_}
+use native.Mathlib.Omega.{arith}
+use mathlib.Core.Path.{_≡_, refl, sym, ap, _∙_}
+use mathlib.Core.List.{List, _++_}
+use mathlib.Core.Option.{Option}
+use lib.ListN.{length, take, drop, length-drop, length-append}
+use mir.Syntax.{w64}
+use mir.Val.{Fits}
+use Rattle.octets.specs.OctetsLaws.{octets-take, octets-drop}
+use Rattle.element.specs.Header.{headerOf}
+use Rattle.codec.specs.Codec.{Read, read, broke, Got, got, bad}
+use Rattle.codec.specs.CodecLaws.{got-size}
+use Rattle.codec.specs.Tagged.{inner}
+use Rattle.codec.specs.Many.{manyDec, many}
+use Rattle.codec.specs.Sequence.{fieldDec}
+use Rattle.codec.specs.Mapped.{mappedDec}
+use Rattle.codec.specs.Views.{stepOf, fitOf}
+use Rattle.codec.specs.ViewLaws.{step-taken, step-bad, fit-fits, fit-breaks}
+use Rattle.codec.specs.declared.Step.{Step}
+use Rattle.codec.specs.declared.Step.the-variants.{Taken, Bad}
+use Rattle.codec.specs.declared.Fit.{Fit}
+use Rattle.codec.specs.declared.Fit.the-variants as fit
+use Rattle.layout.specs.Reading.{Entry, Extension}
+use Rattle.layout.specs.Kinds.{time}
+use Rattle.layout.specs.Format.{singleResponse, responses, responderId, signedBody}
+use Rattle.words.specs.Spots.{expected, stampOf}
+use Rattle.words.specs.ExpectLaws.{never, expected-at, tagged-at, tagged-wrong}
+use Rattle.words.specs.SpotLaws.{stamp-read, stamp-wrong}
+use Rattle.words.specs.declared.Spot.{Spot}
+use Rattle.words.specs.declared.Spot.the-variants as spot
+use Rattle.words.specs.declared.Stamp.{Stamp}
+use Rattle.words.specs.declared.Stamp.the-variants as stamp
+use Rattle.entry.specs.Counts.{countOf}
+use Rattle.entry.specs.Tails.{extensionsOn}
+use Rattle.entry.specs.declared.Count.{Count}
+use Rattle.entry.specs.declared.Count.the-variants as count
+use Rattle.response.specs.Views.{responsesOn, producedOn, listedOf, producedOf, insideOf, entriesPlace, entriesLength}
+use Rattle.response.specs.declared.signed.Listed.{Listed}
+use Rattle.response.specs.declared.signed.Listed.the-variants as listed
+use Rattle.response.specs.declared.signed.Inside.the-variants as inside
+use Rattle.response.proofs.Lent.{Known, known-octets, rest-is, part-is, part-length, whole-size, after-place}
+
+-- ── the entries' sequence, then maybe extensions ──
+count-broke : (o : Read (List Entry)) (p : ℕ) → countOf o ≡ count.Breaks p → o ≡ broke p
+unfolding countOf
+count-broke (broke j) p e = let i : j ≡ p = cc in ap broke i
+count-broke (read m) p e = never (cc)
+
+count-read : (o : Read (List Entry)) (k : ℕ) → countOf o ≡ count.Is k → (m : List Entry) × (o ≡ read m) × (length m ≡ k)
+unfolding countOf
+count-read (broke j) k e = never (cc)
+count-read (read m) k e = (m, refl, cc)
+
+module _ (s : List ℕ) (x : Spot) (q : x ≡ expected 0x30 (headerOf s)) where
+  pub entries-wrong : (p : ℕ) → x ≡ spot.Wrong p → listed.Broken p ≡ listedOf (responsesOn .dec s)
+  unfolding listedOf responsesOn responses fieldDec
+  entries-wrong p f = rw (tagged-wrong inner 0x30 (manyDec (singleResponse .dec) 0 64) s p (sym q ∙ f))
+
+  module _ (b l : ℕ) (f : x ≡ spot.At b l) where
+    pub entries-end : b + l ≤ length s
+    entries-end = expected-at 0x30 s b l (sym q ∙ f) .2
+
+    pub entries-sum : length s < 2 ^ 64 → Fits w64 (b + l)
+    entries-sum z = record { fits = omega (arith, entries-end) }
+
+    module _ (y : Count) (c : y ≡ countOf (many 0 64 singleResponse .dec (take (b + l - b) (drop b s)))) where
+      entries-are : countOf (many 0 64 singleResponse .dec (take l (drop b s))) ≡ y
+      entries-are = rw (part-is b l s) at (sym c)
+
+      broken : (p : ℕ) → y ≡ count.Breaks p → many 0 64 singleResponse .dec (take l (drop b s)) ≡ broke p
+      broken p g = count-broke (many 0 64 singleResponse .dec (take l (drop b s))) p (entries-are ∙ g)
+
+      pub entries-place : (p : ℕ) → y ≡ count.Breaks p → length s < 2 ^ 64 → Fits w64 (b + p)
+      entries-place p g z =
+          let v = many 0 64 singleResponse .within (take l (drop b s)) p (broken p g) in
+          record { fits = omega (arith, entries-end, part-length b l s entries-end) }
+
+      pub entries-broken : (p : ℕ) → y ≡ count.Breaks p → listed.Broken (b + p) ≡ listedOf (responsesOn .dec s)
+      unfolding listedOf responsesOn responses fieldDec
+      entries-broken p g = rw (tagged-at inner 0x30 (manyDec (singleResponse .dec) 0 64) s b l (sym q ∙ f), broken p g)
+
+      module _ (k : ℕ) (g : y ≡ count.Is k) where
+        entries-read : (m : List Entry) × (many 0 64 singleResponse .dec (take l (drop b s)) ≡ read m) × (length m ≡ k)
+        entries-read = count-read (many 0 64 singleResponse .dec (take l (drop b s))) k (entries-are ∙ g)
+
+        responses-got : responses .dec s ≡ got (entries-read .0) (b + l)
+        unfolding responses
+        responses-got = tagged-at inner 0x30 (manyDec (singleResponse .dec) 0 64) s b l (sym q ∙ f) ∙ rw (entries-read .1)
+
+        module _ (z : Fit) (d : z ≡ fitOf (extensionsOn .dec (take (length s - (b + l)) (drop (b + l) s)))) where
+          more-is : fitOf (extensionsOn .dec (drop (b + l) s)) ≡ z
+          more-is = rw (rest-is (b + l) s) at (sym d)
+
+          pub more-place : (p : ℕ) → z ≡ fit.Breaks p → length s < 2 ^ 64 → Fits w64 (b + l + p)
+          more-place p h = after-place extensionsOn (b + l) s p (fit-breaks extensionsOn (drop (b + l) s) p (more-is ∙ h) .0) entries-end
+
+          pub more-broken : (p : ℕ) → z ≡ fit.Breaks p → listed.Broken (b + l + p) ≡ listedOf (responsesOn .dec s)
+          unfolding listedOf responsesOn fieldDec
+          more-broken p h = rw (responses-got, fit-breaks extensionsOn (drop (b + l) s) p (more-is ∙ h) .0)
+
+          pub entries-found : Known s → z ≡ fit.Fits → listed.Holds b l k ≡ listedOf (responsesOn .dec s)
+          unfolding listedOf responsesOn fieldDec
+          entries-found w h =
+              let o = known-octets s w in
+              let m = entries-read .0 in
+              let size = got-size responses s m (b + l) o responses-got in
+              let held = whole-size (many 0 64 singleResponse) (take l (drop b s)) m (octets-take l (drop b s) (octets-drop b s o)) (entries-read .1) in
+              let long : entriesLength m ≡ l = held ∙ part-length b l s entries-end in
+              let i : b + l - l ≡ b = omega arith in
+              rw (responses-got, fit-fits extensionsOn (drop (b + l) s) (more-is ∙ h) .1, size, long, i, entries-read .2)
+
+-- ── producedAt, then the rest ──
+listed-broke : (o : Read (List Entry × Option (List Extension))) (p : ℕ) → listedOf o ≡ listed.Broken p → o ≡ broke p
+unfolding listedOf
+listed-broke (broke j) p e = let i : j ≡ p = cc in ap broke i
+listed-broke (read y) p e = never (cc)
+
+listed-read : (o : Read (List Entry × Option (List Extension))) (b l k : ℕ) → listedOf o ≡ listed.Holds b l k
+    → (y : List Entry × Option (List Extension)) × (o ≡ read y) × (entriesPlace (y .0) ≡ b) × (entriesLength (y .0) ≡ l) × (length (y .0) ≡ k)
+unfolding listedOf
+listed-read (broke j) b l k e = never (cc)
+listed-read (read y) b l k e = (y, refl, cc, cc, cc)
+
+module _ (s : List ℕ) (x : Stamp) (q : x ≡ stampOf (time .dec s)) where
+  pub produced-wrong : (p : ℕ) → x ≡ stamp.Wrong p → listed.Broken p ≡ producedOf (producedOn .dec s)
+  unfolding producedOf producedOn fieldDec
+  produced-wrong p f = rw (stamp-wrong time s p (sym q ∙ f) .0)
+
+  module _ (v n : ℕ) (f : x ≡ stamp.Read v n) where
+    pub produced-end : n ≤ length s
+    produced-end = stamp-read time s v n (sym q ∙ f) .2
+
+    module _ (y : Listed) (c : y ≡ listedOf (responsesOn .dec (take (length s - n) (drop n s)))) where
+      listed-is : listedOf (responsesOn .dec (drop n s)) ≡ y
+      listed-is = rw (rest-is n s) at (sym c)
+
+      pub listed-place : (p : ℕ) → y ≡ listed.Broken p → length s < 2 ^ 64 → Fits w64 (n + p)
+      listed-place p g = after-place responsesOn n s p (listed-broke (responsesOn .dec (drop n s)) p (listed-is ∙ g)) produced-end
+
+      pub listed-broken : (p : ℕ) → y ≡ listed.Broken p → listed.Broken (n + p) ≡ producedOf (producedOn .dec s)
+      unfolding producedOf producedOn fieldDec
+      listed-broken p g = rw (stamp-read time s v n (sym q ∙ f) .0, listed-broke (responsesOn .dec (drop n s)) p (listed-is ∙ g))
+
+      module _ (w : Known s) (b l k : ℕ) (g : y ≡ listed.Holds b l k) where
+        pub listed-sum : length s < 2 ^ 64 → Fits w64 (n + b)
+        unfolding responsesOn
+        listed-sum z =
+            let (t, e, i, j, h) = listed-read (responsesOn .dec (drop n s)) b l k (listed-is ∙ g) in
+            let r = responsesOn .sound (drop n s) t (octets-drop n s (known-octets s w)) e .1 in
+            record { fits = omega (arith, produced-end, length-drop n s, simp length-append at (ap length r)) }
+
+        pub listed-found : listed.Holds (n + b) l k ≡ producedOf (producedOn .dec s)
+        unfolding producedOf producedOn fieldDec
+        listed-found =
+            let (t, e, i, j, h) = listed-read (responsesOn .dec (drop n s)) b l k (listed-is ∙ g) in
+            let d = stamp-read time s v n (sym q ∙ f) in
+            let size = got-size time s v n (known-octets s w) (d .0) in
+            rw (d .0, e, size, i, j, h)
+
+-- ── the responder id, then the rest ──
+produced-broke : (o : Read (ℕ × (List Entry × Option (List Extension)))) (p : ℕ) → producedOf o ≡ listed.Broken p → o ≡ broke p
+unfolding producedOf
+produced-broke (broke j) p e = let i : j ≡ p = cc in ap broke i
+produced-broke (read y) p e = never (cc)
+
+produced-read : (o : Read (ℕ × (List Entry × Option (List Extension)))) (b l k : ℕ) → producedOf o ≡ listed.Holds b l k
+    → (y : ℕ × (List Entry × Option (List Extension))) × (o ≡ read y) × (length (time .enc (y .0)) + entriesPlace (y .1 .0) ≡ b)
+    × (entriesLength (y .1 .0) ≡ l) × (length (y .1 .0) ≡ k)
+unfolding producedOf
+produced-read (broke j) b l k e = never (cc)
+produced-read (read y) b l k e = (y, refl, cc, cc, cc)
+
+module _ (s : List ℕ) (x : Step) (q : x ≡ stepOf (responderId .dec s)) where
+  pub responder-wrong : (p : ℕ) → x ≡ Bad p → inside.Broken p ≡ insideOf (signedBody .dec s)
+  unfolding insideOf signedBody mappedDec fieldDec
+  responder-wrong p f = rw (step-bad responderId s p (sym q ∙ f) .0)
+
+  module _ (n : ℕ) (f : x ≡ Taken n) where
+    pub responder-end : n ≤ length s
+    responder-end = step-taken responderId s n (sym q ∙ f) .3
+
+    module _ (y : Listed) (c : y ≡ producedOf (producedOn .dec (take (length s - n) (drop n s)))) where
+      produced-is : producedOf (producedOn .dec (drop n s)) ≡ y
+      produced-is = rw (rest-is n s) at (sym c)
+
+      pub produced-place : (p : ℕ) → y ≡ listed.Broken p → length s < 2 ^ 64 → Fits w64 (n + p)
+      produced-place p g = after-place producedOn n s p (produced-broke (producedOn .dec (drop n s)) p (produced-is ∙ g)) responder-end
+
+      pub produced-broken : (p : ℕ) → y ≡ listed.Broken p → inside.Broken (n + p) ≡ insideOf (signedBody .dec s)
+      unfolding insideOf signedBody mappedDec fieldDec producedOn responsesOn extensionsOn
+      produced-broken p g =
+          rw (step-taken responderId s n (sym q ∙ f) .1, produced-broke (producedOn .dec (drop n s)) p (produced-is ∙ g))
+
+      module _ (w : Known s) (b l k : ℕ) (g : y ≡ listed.Holds b l k) where
+        pub produced-sum : length s < 2 ^ 64 → Fits w64 (n + b)
+        unfolding producedOn responsesOn
+        produced-sum z =
+            let (t, e, i, j, h) = produced-read (producedOn .dec (drop n s)) b l k (produced-is ∙ g) in
+            let r = producedOn .sound (drop n s) t (octets-drop n s (known-octets s w)) e .1 in
+            record { fits = omega (arith, responder-end, length-drop n s, simp length-append at (ap length r)) }
+
+        pub inside-found : inside.Holds n (n + b) l k ≡ insideOf (signedBody .dec s)
+        unfolding insideOf signedBody mappedDec fieldDec producedOn responsesOn extensionsOn
+        inside-found =
+            let (t, e, i, j, h) = produced-read (producedOn .dec (drop n s)) b l k (produced-is ∙ g) in
+            let d = step-taken responderId s n (sym q ∙ f) in
+            let size = got-size responderId s (d .0) n (known-octets s w) (d .1) in
+            rw (d .1, e, size, i, j, h)

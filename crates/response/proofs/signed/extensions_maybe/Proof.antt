@@ -1,0 +1,44 @@
+-- `response::signed::extensions_maybe` meets its contract, by the first octet.
+-- Assumes nothing.
+use borrow.Author.Needs.{needs}
+use Rattle.entry.specs.Tails.{extensionsOn}
+use Rattle.cert.specs.SeqCases.{filled-optional, optional-none}
+use Rattle.layout.specs.Format.{extensions}
+use Rattle.response.proofs.signed.extensions_maybe.Statement.{statement}
+use Rattle.response.proofs.signed.extensions_maybe.Tie as tie
+use Rattle.response.proofs.signed.extensions_maybe.Reads as reads
+use Rattle.response.proofs.signed.extensions_maybe.Lts as lts
+use Rattle.cert.proofs.filled.Reads as filled-reads
+use Rattle.cert.proofs.starts_with.Reads as starts-with-reads
+use Rattle.extension.proofs.read_extensions.Reads as read-extensions-reads
+
+starts-with-requires : tie.Need-starts-with-requires
+starts-with-requires c κs = search needs
+
+read-extensions-requires : tie.Need-read-extensions-requires
+read-extensions-requires c κs = search needs
+
+filled-requires : tie.Need-filled-requires
+filled-requires c κs = search needs
+
+returns : tie.Need-returns
+unfolding extensionsOn
+returns c = search (filled-optional extensions)
+
+filled-requires-2 : tie.Need-filled-requires-2
+filled-requires-2 c κs = search needs
+
+returns-2 : tie.Need-returns-2
+unfolding extensionsOn
+returns-2 c = search (optional-none extensions)
+
+pub extensions-maybe-spec : {M : Type 1} → statement M
+extensions-maybe-spec =
+    tie.close
+    (tie.spec
+    starts-with-requires
+    read-extensions-requires
+    filled-requires
+    returns
+    filled-requires-2
+    returns-2)

@@ -1,0 +1,4 @@
+pub mod Primitive
+pub mod ContentCases
+pub mod SingleCases
+pub mod OctetCases

@@ -1,0 +1,39 @@
+-- `words::singles::read_code` meets its contract, by the octet.
+-- Assumes nothing.
+use borrow.Author.Needs.{needs}
+use Rattle.words.proofs.OctetCases.{value-wrong, value-pass, value-fail}
+use Rattle.words.proofs.singles.read_code.Statement.{statement}
+use Rattle.words.proofs.singles.read_code.Tie as tie
+
+read-single-requires : tie.Need-read-single-requires
+read-single-requires c κs = search needs
+
+enum-known-code : tie.Need-enum-known-code
+enum-known-code c = search needs
+
+enum-known-code-2 : tie.Need-enum-known-code-2
+enum-known-code-2 c = search needs
+
+status-fits-requires : tie.Need-status-fits-requires
+status-fits-requires c κs = search needs
+
+returns : tie.Need-returns
+returns c = search value-wrong
+
+returns-2 : tie.Need-returns-2
+returns-2 c = search value-pass
+
+returns-3 : tie.Need-returns-3
+returns-3 c = search value-fail
+
+pub read-code-spec : {M : Type 1} → statement M
+read-code-spec =
+    tie.close
+    (tie.spec
+    read-single-requires
+    enum-known-code
+    enum-known-code-2
+    status-fits-requires
+    returns
+    returns-2
+    returns-3)
