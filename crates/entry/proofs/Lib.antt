@@ -1,2 +1,7 @@
 pub mod CountTurns
-pub mod EntryCases
+pub mod NextCases
+pub mod IdCases
+pub mod ReasonLaws
+pub mod StandingCases
+pub mod LookLaws
+pub mod LookCases

@@ -4,40 +4,40 @@ use codec::Step;
 use words::Spot;
 use words::Stamp;
 ghost use mathlib.Core.Path.{_≡_};
-ghost use Rattle.codec.specs.Sequence.{only};
 ghost use Rattle.codec.specs.Views.{stepOf, fitOf};
-ghost use Rattle.layout.specs.Kinds.{time};
 ghost use Rattle.layout.specs.Format.{nextUpdate, singleBody, singleResponse};
+ghost use Rattle.words.specs.Spots.{stampOf};
 ghost use Rattle.entry.specs.Tails.{extensionsOn, nextOn, thisOn, statusOn};
 
-// A time and nothing more.
-fn time_alone(s: &[u8]) -> Fit
-    ensures { λ r. ⌜ r ≡ fitOf (only time .dec (now (s .entry))) ⌝ }
-{
-    let stamp = words::read_time(s);
-    match stamp {
-        Stamp::Wrong(p) => Fit::Breaks(p),
-        Stamp::Read { next, .. } => cert::filled(Step::Taken(next), s.len()),
-    }
-}
-
-// nextUpdate [0]
-fn read_next(s: &[u8]) -> Step
-    ensures { λ r. ⌜ r ≡ stepOf (nextUpdate .dec (now (s .entry))) ⌝ }
+// nextUpdate [0]: its time, which fills it.
+pub fn read_next(s: &[u8]) -> Stamp
+    ensures { λ r. ⌜ r ≡ stampOf (nextUpdate .dec (now (s .entry))) ⌝ }
 {
     let spot = words::expect(s, 0xa0);
     match spot {
-        Spot::Wrong(p) => Step::Bad(p),
+        Spot::Wrong(p) => Stamp::Wrong(p),
         Spot::At { start, len } => {
             let end = start + len;
-            let body = time_alone(&s[start..end]);
-            cert::closed(start, end, body)
+            let time = words::read_time(&s[start..end]);
+            match time {
+                Stamp::Wrong(p) => {
+                    let place = start + p;
+                    Stamp::Wrong(place)
+                }
+                Stamp::Read { seconds, next } => {
+                    if next == len {
+                        return Stamp::Read { seconds, next: end };
+                    }
+                    let place = start + next;
+                    Stamp::Wrong(place)
+                }
+            }
         }
     }
 }
 
 // Maybe extensions, and nothing more.
-fn extensions_maybe(s: &[u8]) -> Fit
+pub fn extensions_maybe(s: &[u8]) -> Fit
     ensures { λ r. ⌜ r ≡ fitOf (extensionsOn .dec (now (s .entry))) ⌝ }
 {
     if cert::starts_with(s, 0xa1) {
@@ -52,12 +52,12 @@ fn next_and_more(s: &[u8]) -> Fit
     ensures { λ r. ⌜ r ≡ fitOf (nextOn .dec (now (s .entry))) ⌝ }
 {
     if cert::starts_with(s, 0xa0) {
-        let next = read_next(s);
-        match next {
-            Step::Bad(p) => Fit::Breaks(p),
-            Step::Taken(n) => {
-                let rest = extensions_maybe(&s[n..]);
-                cert::after(n, s.len(), rest)
+        let until = read_next(s);
+        match until {
+            Stamp::Wrong(p) => Fit::Breaks(p),
+            Stamp::Read { next, .. } => {
+                let rest = extensions_maybe(&s[next..]);
+                cert::after(next, s.len(), rest)
             }
         }
     } else {
@@ -87,8 +87,8 @@ fn status_and_more(s: &[u8]) -> Fit
     match status {
         Step::Bad(p) => Fit::Breaks(p),
         Step::Taken(n) => {
-            let rest = this_and_more(&s[n..]);
-            cert::after(n, s.len(), rest)
+            let times = this_and_more(&s[n..]);
+            cert::after(n, s.len(), times)
         }
     }
 }
@@ -101,8 +101,8 @@ fn single_body(s: &[u8]) -> Fit
     match id {
         Step::Bad(p) => Fit::Breaks(p),
         Step::Taken(n) => {
-            let rest = status_and_more(&s[n..]);
-            cert::after(n, s.len(), rest)
+            let said = status_and_more(&s[n..]);
+            cert::after(n, s.len(), said)
         }
     }
 }

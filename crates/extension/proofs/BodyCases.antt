@@ -1,12 +1,12 @@
--- The cases of what one extension holds: the value, the flag and the value, the OID that is new, and
--- all of them.
+-- The cases of what one extension holds: the value, the OID that is new, and all of it. Those of TRUE,
+-- which may be there, are in Around.
 -- Assumes nothing.
 use Prim.Native.Nat.{ℕ, _+_, _-_, _^_, _≤_, _<_}
 use native.Mathlib.Omega.{arith}
 use mathlib.Core.Path.{_≡_, refl, sym, ap, _∙_}
 use mathlib.Core.Bool.{Bool, true, false, cond}
-use mathlib.Core.List.{List, []}
-use mathlib.Core.Option.{Option, none, some}
+use mathlib.Core.List.{List}
+use mathlib.Core.Option.{none, some}
 use lib.Dec.{eqb, lit<}
 use lib.ListN.{length, take, drop, length-take, length-drop}
 use mir.Syntax.{w64}
@@ -16,18 +16,15 @@ use Rattle.element.specs.declared.Header.{Header}
 use Rattle.element.specs.declared.Header.the-variants.{Found, Refused}
 use Rattle.content.specs.Oid.{oidOk}
 use Rattle.codec.specs.Codec.{Read, Got, got, bad, Whole, Element}
-use Rattle.codec.specs.Outcome.{attach, bad-got, got-bad}
+use Rattle.codec.specs.Outcome.{attach}
 use Rattle.codec.specs.Contents.{octetsRead, orStart, filledDec}
 use Rattle.codec.specs.Tagged.{own, taggedOf, taggedDec}
 use Rattle.codec.specs.Keys.{newTo, newTest}
 use Rattle.codec.specs.Mapped.{mappedDec}
-use Rattle.codec.specs.Sequence.{fieldDec, onlyDec}
-use Rattle.codec.specs.Option.{optionDec}
-use Rattle.codec.specs.Starts.{startsWith}
+use Rattle.codec.specs.Sequence.{fieldDec}
 use Rattle.codec.specs.Views.{stepOf, fitOf, later}
-use Rattle.codec.specs.ViewLaws.{step-taken, step-bad, fit-breaks, fit-mapped, fit-field, fit-field-bad, fit-option, fit-option-none, fit-option-bad, fit-only-bad}
-use Rattle.codec.specs.declared.Step.{Step}
-use Rattle.codec.specs.declared.Step.the-variants.{Taken, Bad}
+use Rattle.codec.specs.ViewLaws.{fit-breaks, fit-mapped, fit-field, fit-field-bad, fit-only-bad}
+use Rattle.codec.specs.declared.Step.the-variants.{Taken}
 use Rattle.codec.specs.declared.Fit.{Fit}
 use Rattle.codec.specs.declared.Fit.the-variants as fit
 use Rattle.layout.specs.Words.{anything}
@@ -64,41 +61,6 @@ module _ (s : List ℕ) (r : Spot) (q : r ≡ spotOf (string anything .dec s)) w
     value-filled x c =
         let g = spot-got (string anything) (last-string anything) s r q b l f in
         c ∙ ap (λ (y : Got (List ℕ)). fillsOf (stepOf y) (length s)) (sym g) ∙ fills-only (string anything) s
-
--- ── maybe an element, then a whole list ──
-module _ {A B : Type 0} (t : ℕ) (e : Element A) (d : List ℕ → Read B) (s : List ℕ) (z : Bool) (k : z ≡ startsWith t s) where
-  pub option-off : z ≡ false → (x : Fit) → x ≡ fitOf (d s) → x ≡ fitOf (optionDec t (e .dec) d s)
-  option-off y x c = c ∙ sym (fit-option-none (e .dec) d s t (sym k ∙ y))
-
-  module _ (y : z ≡ true) (r : Step) (q : r ≡ stepOf (e .dec s)) where
-    pub option-bad : (p : ℕ) → r ≡ Bad p → fit.Breaks p ≡ fitOf (optionDec t (e .dec) d s)
-    option-bad p f = sym (fit-option-bad (e .dec) d s t (sym k ∙ y) p (step-bad e s p (sym q ∙ f) .0))
-
-    module _ (n : ℕ) (f : r ≡ Taken n) (x : Fit) (c : x ≡ fitOf (d (take (length s - n) (drop n s)))) where
-      option-later : fitOf (optionDec t (e .dec) d s) ≡ later n x
-      option-later =
-          let (a, g, _, _) = step-taken e s n (sym q ∙ f) in
-          fit-option (e .dec) d s t (sym k ∙ y) a n g ∙ ap (later n) (sym (rw (rest-is n s) at c))
-
-      pub option-fits : x ≡ fit.Fits → fit.Fits ≡ fitOf (optionDec t (e .dec) d s)
-      unfolding later
-      option-fits h = sym (option-later ∙ ap (later n) h)
-
-      pub option-breaks : (p : ℕ) → x ≡ fit.Breaks p → fit.Breaks (n + p) ≡ fitOf (optionDec t (e .dec) d s)
-      unfolding later
-      option-breaks p h = sym (option-later ∙ ap (later n) h)
-
--- the rest after an element
-module _ {A : Type 0} (e : Element A) (s : List ℕ) (r : Step) (q : r ≡ stepOf (e .dec s)) (n : ℕ) (f : r ≡ Taken n) where
-  pub taken-end : n ≤ length s
-  taken-end = step-taken e s n (sym q ∙ f) .3
-
-  pub taken-place : {B : Type 0} (w : Whole B) (x : Fit) → x ≡ fitOf (w .dec (take (length s - n) (drop n s)))
-      → (p : ℕ) → x ≡ fit.Breaks p → length s < 2 ^ 64 → Fits w64 (n + p)
-  taken-place w x c p y z =
-      let v = fit-breaks w (take (length s - n) (drop n s)) p (sym c ∙ y) .1 in
-      let i = taken-end in
-      record { fits = omega (arith, simp (length-take, length-drop) at v) }
 
 -- ── an OID that is new ──
 -- what is left of an OID that was read

@@ -1,14 +1,12 @@
 -- The cases of the list of extensions. The loop is at a place up to which count extensions are read,
 -- and the OIDs that must not come again are those that the headers show.
 -- Assumes nothing.
-use Prim.Native.Nat.{ℕ, zero, suc, _+_, _-_, _^_, _≤_, _<_}
+use Prim.Native.Nat.{ℕ, zero, suc, _+_, _-_, _≤_, _<_}
 use native.Mathlib.Omega.{arith}
 use mathlib.Core.Path.{_≡_, refl, sym, ap, _∙_}
 use mathlib.Core.List.{List, [], _∷_}
 use lib.ListN.{length, take, drop, length-drop, drop-of-length-le}
 use lib.Seq.{drop-drop}
-use mir.Syntax.{w64}
-use mir.Val.{Fits}
 use Rattle.codec.specs.Codec.{Got, got, bad}
 use Rattle.codec.specs.Many.{enough}
 use Rattle.codec.specs.Each.{eachDec, each-got, each-bad}
@@ -21,11 +19,10 @@ use Rattle.codec.specs.declared.Fit.the-variants as fit
 use Rattle.layout.specs.Kinds.{sequence}
 use Rattle.layout.specs.Reading.{Extension}
 use Rattle.layout.specs.Format.{extensionAfter, extensionList}
-use Rattle.extension.specs.Seen.{nameAt, oidsOf}
+use Rattle.extension.specs.Seen.{oidsOf}
 use Rattle.extension.specs.Pieces.{sequenced, held, fillsOf}
-use Rattle.extension.specs.declared.Name.the-variants as name
-use Rattle.extension.proofs.Around.{rest-is, fills-only}
-use Rattle.extension.proofs.Named.{Named, named}
+use Rattle.extension.proofs.Around.{fills-only, step-here, step-inside}
+use Rattle.extension.proofs.Named.{named}
 
 -- ── the 30, and nothing more ──
 pub held-filled : (s : List ℕ) (x : Step) → x ≡ stepOf (sequenced .dec s) → (y : Fit) → y ≡ fillsOf x (length s) → y ≡ fitOf (held .dec s)
@@ -33,10 +30,10 @@ unfolding sequenced held
 held-filled s x q y c = c ∙ rw q (fills-only (sequence extensionList) s)
 
 -- ── the answer for the rest of a list ──
-abbrev key : Extension → List ℕ
+abbrev pub key : Extension → List ℕ
 key e = e .oid
 
-abbrev after : List (List ℕ) → List ℕ → Got Extension
+abbrev pub after : List (List ℕ) → List ℕ → Got Extension
 after seen = extensionAfter seen .dec
 
 abbrev pub rest : List (List ℕ) → ℕ → List ℕ → Fit
@@ -122,15 +119,10 @@ module _ (s : List ℕ) (count at : ℕ) (i : Reading s count at) where
     -- the answer for the extension at the place, as the code lends it
     module _ (less : count ≡ 16 → ⊥) (r : Step) (q : r ≡ stepOf (extensionAfter (oidsOf count [] s) .dec (take (length s - at) (drop at s)))) where
       here : stepOf (after (oidsOf count [] s) (drop at s)) ≡ r
-      here = rw (rest-is at s) at (sym q)
+      here = step-here (extensionAfter (oidsOf count [] s)) s at r q
 
       few : count < 16
       few = omega (arith, i .few)
-
-      pub list-place : (p : ℕ) → r ≡ Bad p → length s < 2 ^ 64 → Fits w64 (at + p)
-      list-place p b z =
-          let v = step-bad (extensionAfter (oidsOf count [] s)) (drop at s) p (here ∙ b) .1 in
-          record { fits = omega (arith, length-drop at s) }
 
       pub list-bad : (p : ℕ) → r ≡ Bad p → fit.Breaks (at + p) ≡ fitOf (extensionList .dec s)
       unfolding later
@@ -139,20 +131,6 @@ module _ (s : List ℕ) (count at : ℕ) (i : Reading s count at) where
           sym (i .same ∙ ap (later at) (rest-bad (oidsOf count [] s) count (drop at s) left few p v))
 
       module _ (n : ℕ) (b : r ≡ Taken n) where
-        taken : (0 < n) × (at + n ≤ length s)
-        taken =
-            let v = step-taken (extensionAfter (oidsOf count [] s)) (drop at s) n (here ∙ b) in
-            omega (arith, v .2, v .3, length-drop at s)
-
-        pub list-sum : length s < 2 ^ 64 → Fits w64 (at + n)
-        list-sum z = record { fits = omega (arith, taken .1) }
-
-        pub list-count : Fits w64 (count + 1)
-        list-count = record { fits = omega (arith, few) }
-
-        pub list-less : length s - (at + n) < length s - at
-        list-less = omega (arith, taken .0, taken .1)
-
         -- one more OID
         module _ (a : Extension) (g : after (oidsOf count [] s) (drop at s) ≡ got a n) where
           step-oids : (j : ℕ) → oidsOf (suc j) (oidsOf count [] s) (drop at s) ≡ oidsOf j (a .oid ∷ oidsOf count [] s) (drop (at + n) s)
@@ -172,7 +150,7 @@ module _ (s : List ℕ) (count at : ℕ) (i : Reading s count at) where
 
           next : Reading s (count + 1) (at + n)
           next = record {
-            le = taken .1;
+            le = step-inside (extensionAfter (oidsOf count [] s)) s at r q n b (i .le) .1;
             few = omega (arith, few);
             oids = passed;
             same =

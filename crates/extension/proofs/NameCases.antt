@@ -3,11 +3,11 @@
 -- Assumes nothing.
 use Prim.Native.Nat.{ℕ, zero, suc, _+_, _-_, _^_, _≤_, _<_}
 use native.Mathlib.Omega.{arith}
-use mathlib.Core.Path.{_≡_, refl, sym, ap, _∙_}
+use mathlib.Core.Path.{_≡_, refl, sym, _∙_}
 use mathlib.Core.Bool.{Bool, true, false, cond}
 use mathlib.Core.List.{List, [], _∷_}
 use lib.ListN.{length, take, drop, length-take, length-drop}
-use lib.Seq.{take-all, drop-drop}
+use lib.Seq.{drop-drop}
 use mir.Syntax.{w64}
 use mir.Val.{Fits}
 use Rattle.octets.specs.Same.{sameOf}
@@ -18,8 +18,8 @@ use Rattle.words.specs.ExpectLaws.{never, expected-at}
 use Rattle.words.specs.declared.Spot.{Spot}
 use Rattle.words.specs.declared.Spot.the-variants as spot
 use Rattle.extension.specs.Seen.{nameIn, nameOf, nameAt, onName, oidsOf}
-use Rattle.extension.specs.declared.Name.{Name}
-use Rattle.extension.specs.declared.Name.the-variants as name
+use Rattle.extension.specs.declared.names.Name.{Name}
+use Rattle.extension.specs.declared.names.Name.the-variants as name
 use Rattle.extension.proofs.Around.{part-is, rest-is, around-end}
 
 -- ── the OID at the head ──
@@ -69,6 +69,29 @@ name-inside s u l n e = go (expected 0x30 (headerOf s)) refl e
         let i = expected-at 0x30 s b m y in
         inner b m (i .1, i .2) (expected 0x06 (headerOf (take m (drop b s)))) refl e
 
+-- ── the OID at a place, as the code lends what is left ──
+module _ (s : List ℕ) (at : ℕ) (r : Name) (q : r ≡ nameAt (take (length s - at) (drop at s))) where
+  pub name-here : nameAt (drop at s) ≡ r
+  name-here = rw (rest-is at s) at (sym q)
+
+  module _ (u l n : ℕ) (e : r ≡ name.Is u l n) (le : at ≤ length s) where
+    pub place-inside : (0 < n) × (u + l ≤ n) × (at + n ≤ length s)
+    place-inside =
+        let v = name-inside (drop at s) u l n (name-here ∙ e) in
+        (v .0, v .1, omega (arith, v .2, length-drop at s))
+
+    pub place-first : length s < 2 ^ 64 → Fits w64 (at + u)
+    place-first z = record { fits = omega (arith, place-inside .1, place-inside .2) }
+
+    pub place-last : length s < 2 ^ 64 → Fits w64 (at + u + l)
+    place-last z = record { fits = omega (arith, place-inside .1, place-inside .2) }
+
+    pub place-end : at + u + l ≤ length s
+    place-end = omega (arith, place-inside .1, place-inside .2)
+
+    pub place-next : length s < 2 ^ 64 → Fits w64 (at + n)
+    place-next z = record { fits = omega (arith, place-inside .2) }
+
 -- ── the loop ──
 -- what was seen stays seen
 also-seen : (y : List ℕ) (seen : List (List ℕ)) (x : List ℕ) → newTo seen x ≡ false → newTo (y ∷ seen) x ≡ false
@@ -117,45 +140,26 @@ module _ (s : List ℕ) (count : ℕ) (x : List ℕ) (left at : ℕ) (i : Lookin
   unfolding oidsOf
   look-end h = let z : left ≡ 0 = omega arith in sym (rw (i .same, z) (i .new))
 
-  -- the name at the place, as the code lends it
+  -- by the name at the place
   module _ (r : Name) (q : r ≡ nameAt (take (length s - at) (drop at s))) where
-    here : nameAt (drop at s) ≡ r
-    here = rw (rest-is at s) at (sym q)
-
     pub look-none : r ≡ name.No → true ≡ newTo (oidsOf count [] s) x
-    look-none e = sym (rw (i .same, oids-none left (i .seen) (drop at s) (here ∙ e)) (i .new))
+    look-none e = sym (rw (i .same, oids-none left (i .seen) (drop at s) (name-here s at r q ∙ e)) (i .new))
 
-    module _ (u l n : ℕ) (e : r ≡ name.Is u l n) where
-      found : (0 < n) × (u + l ≤ n) × (at + n ≤ length s)
-      found = let v = name-inside (drop at s) u l n (here ∙ e) in (v .0, v .1, omega (arith, i .le, v .2, length-drop at s))
+    module _ (u l n : ℕ) (e : r ≡ name.Is u l n) (some : 0 < left) (z : Bool) (d : z ≡ sameOf (take (at + u + l - (at + u)) (drop (at + u) s)) x) where
+      more : oidsOf count [] s ≡ oidsOf (left - 1) (take l (drop u (drop at s)) ∷ i .seen) (drop n (drop at s))
+      more = i .same ∙ oids-next left (i .seen) (drop at s) u l n some (name-here s at r q ∙ e)
 
-      pub look-first : length s < 2 ^ 64 → Fits w64 (at + u)
-      look-first z = record { fits = omega (arith, found .1, found .2) }
+      tested : newTo (take l (drop u (drop at s)) ∷ i .seen) x ≡ cond z false true
+      unfolding newTo
+      tested = rw (drop-drop u at s, ← part-is (at + u) l s, ← d, i .new)
 
-      pub look-last : length s < 2 ^ 64 → Fits w64 (at + u + l)
-      look-last z = record { fits = omega (arith, found .1, found .2) }
+      pub look-hit : z ≡ true → false ≡ newTo (oidsOf count [] s) x
+      look-hit y = sym (rw more (oids-seen (left - 1) (take l (drop u (drop at s)) ∷ i .seen) (drop n (drop at s)) x (rw y at tested)))
 
-      pub look-part : at + u + l ≤ length s
-      look-part = omega (arith, found .1, found .2)
-
-      pub look-sum : length s < 2 ^ 64 → Fits w64 (at + n)
-      look-sum z = record { fits = omega (arith, found .2) }
-
-      module _ (some : 0 < left) (z : Bool) (d : z ≡ sameOf (take (at + u + l - (at + u)) (drop (at + u) s)) x) where
-        more : oidsOf count [] s ≡ oidsOf (left - 1) (take l (drop u (drop at s)) ∷ i .seen) (drop n (drop at s))
-        more = i .same ∙ oids-next left (i .seen) (drop at s) u l n some (here ∙ e)
-
-        tested : newTo (take l (drop u (drop at s)) ∷ i .seen) x ≡ cond z false true
-        unfolding newTo
-        tested = rw (drop-drop u at s, ← part-is (at + u) l s, ← d, i .new)
-
-        pub look-hit : z ≡ true → false ≡ newTo (oidsOf count [] s) x
-        look-hit y = sym (rw more (oids-seen (left - 1) (take l (drop u (drop at s)) ∷ i .seen) (drop n (drop at s)) x (rw y at tested)))
-
-        pub look-next : z ≡ false → Looking s count x (left - 1) (at + n)
-        look-next y = record {
-          le = found .2;
-          seen = take l (drop u (drop at s)) ∷ i .seen;
-          new = rw y at tested;
-          same = rw (drop-drop n at s) at more;
-        }
+      pub look-next : z ≡ false → Looking s count x (left - 1) (at + n)
+      look-next y = record {
+        le = place-inside s at r q u l n e (i .le) .2;
+        seen = take l (drop u (drop at s)) ∷ i .seen;
+        new = rw y at tested;
+        same = rw (drop-drop n at s) at more;
+      }

@@ -4,21 +4,21 @@
 -- Assumes nothing.
 use Prim.Native.Nat.{ℕ, zero, suc, _+_, _-_, _≤_, _<_}
 use native.Mathlib.Omega.{arith}
-use mathlib.Core.Path.{_≡_, refl, sym, ap, _∙_}
+use mathlib.Core.Path.{_≡_, refl, ap, _∙_}
 use mathlib.Core.Bool.{Bool, true, false, cond}
 use mathlib.Core.List.{List, [], _∷_}
 use mathlib.Core.Option.{Option, none, some}
 use lib.Dec.{eqb}
-use lib.ListN.{length, take, drop, length-take, length-drop}
+use lib.ListN.{length, take, drop, length-drop}
 use lib.Seq.{length-take-le, take-take, drop-drop, drop-at, take-add}
-use borrow.Author.Tests.{eqb-true, eq-eqb}
+use borrow.Author.Tests.{eqb-true}
 use Rattle.element.specs.Header.{headerOf}
 use Rattle.element.specs.HeaderLaws.{header-inside}
 use Rattle.element.specs.declared.Header.{Header}
 use Rattle.element.specs.declared.Header.the-variants.{Found, Refused}
-use Rattle.codec.specs.Codec.{Read, read, broke, Got, got, bad, Element}
+use Rattle.codec.specs.Codec.{Read, read, got, Element}
 use Rattle.codec.specs.Outcome.{bad-got, attach-got, tested-got, renamed-read, further-read, onGot-read}
-use Rattle.codec.specs.Contents.{octetsRead, filledDec}
+use Rattle.codec.specs.Contents.{octetsRead}
 use Rattle.codec.specs.Tagged.{own, inner, taggedOf, taggedDec}
 use Rattle.codec.specs.Mapped.{mappedDec}
 use Rattle.codec.specs.Sequence.{fieldDec, endDec, onlyDec}
@@ -27,14 +27,13 @@ use Rattle.codec.specs.Option.{optionOf, optionDec}
 use Rattle.layout.specs.Words.{anything}
 use Rattle.layout.specs.Kinds.{string}
 use Rattle.layout.specs.Reading.{Extension}
-use Rattle.layout.specs.Names.{isThere, ExtensionParts, extensionOf}
+use Rattle.layout.specs.Names.{isThere, extensionOf}
 use Rattle.layout.specs.Format.{newOid, critical, extensionBody, extensionAfter}
 use Rattle.words.specs.Spots.{expected}
 use Rattle.words.specs.ExpectLaws.{never}
 use Rattle.words.specs.PrimitiveLaws.{content-read}
-use Rattle.words.specs.declared.Spot.the-variants as spot
 use Rattle.extension.specs.Seen.{nameIn, nameOf, nameAt}
-use Rattle.extension.specs.declared.Name.the-variants as name
+use Rattle.extension.specs.declared.names.Name.the-variants as name
 
 -- ── what was read of an element with a tag ──
 pub record Tagged {A : Type 0} (t : ℕ) (d : List ℕ → Read A) (s : List ℕ) (a : A) (n : ℕ) : Type 0 where

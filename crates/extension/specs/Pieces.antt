@@ -1,7 +1,6 @@
 -- The pieces of which layout's Format makes extensions, under names of their own: what each reader
--- here reads. A reading seen as one of an element that fills its holder.
--- value, flagged, sequenced, held; fillsOf.
--- Nothing is defined anew: each is what Format has at that place.
+-- here reads. And the answer for an element that fills its holder, by that for the element.
+-- value, flagged, sequenced, held; fillsOf. The codecs are what Format has at those places.
 -- Assumes nothing.
 use Prim.Native.Nat.{ℕ}
 use mathlib.Core.Bool.{cond}

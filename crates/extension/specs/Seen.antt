@@ -1,6 +1,7 @@
 -- The OIDs of a list of extensions, by the headers alone: what the code looks at again before an
 -- extension whose OID has to be new.
--- nameIn, nameOf, nameAt; onName, oidsOf. Their laws are in SeenLaws.
+-- nameIn, nameOf, nameAt; onName, oidsOf. Where a name is found in no extension, the rest is not looked
+-- at; that it is found in every one that is read is in proofs, Named.
 -- Assumes nothing.
 use Prim.Native.Nat.{ℕ, zero, suc, _+_}
 use mathlib.Core.List.{List, _∷_}
@@ -9,8 +10,8 @@ use Rattle.element.specs.Header.{headerOf}
 use Rattle.words.specs.Spots.{expected}
 use Rattle.words.specs.declared.Spot.{Spot}
 use Rattle.words.specs.declared.Spot.the-variants as spot
-use Rattle.extension.specs.declared.Name.{Name}
-use Rattle.extension.specs.declared.Name.the-variants as name
+use Rattle.extension.specs.declared.names.Name.{Name}
+use Rattle.extension.specs.declared.names.Name.the-variants as name
 
 -- the OID of an extension whose content starts at b and ends at e, by where it is in the content
 unfoldable pub nameIn : ℕ → ℕ → Spot → Name

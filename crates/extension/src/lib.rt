@@ -4,19 +4,17 @@
 // was lent; a repeated OID is wrong at the tag of the second one. Nothing is copied: the OIDs before an
 // extension are looked at again where they stand.
 mod body; // what one extension holds
+mod critical; // critical extensions that are not understood
 mod list; // the list, and what is around it
 mod names; // the OIDs of a list
 
+pub use critical::strange_place;
 pub use list::read_extensions;
 
-// The OID of the extension at the head of a part.
-pub enum Name {
-    // It starts at start and is len octets long; the extension takes next octets.
-    Is {
-        start: usize,
-        len: usize,
-        next: usize,
-    },
+// The first critical extension of a part that is not understood.
+pub enum Strange {
     // There is none.
-    No,
+    None,
+    // It starts at this place.
+    At(usize),
 }

@@ -1,10 +1,21 @@
 // The OIDs of a list of extensions, looked at where they stand.
-use crate::Name;
 use words::Spot;
 ghost use mathlib.Core.Path.{_≡_};
 ghost use mathlib.Core.List.{[]};
 ghost use Rattle.codec.specs.Keys.{newTo};
 ghost use Rattle.extension.specs.Seen.{nameAt, oidsOf};
+
+// The OID of the extension at the head of a part.
+pub enum Name {
+    // It starts at start and is len octets long; the extension takes next octets.
+    Is {
+        start: usize,
+        len: usize,
+        next: usize,
+    },
+    // There is none.
+    No,
+}
 
 // The OID of the extension at the head of s, by the headers alone.
 pub fn name_at(s: &[u8]) -> Name

@@ -1,7 +1,7 @@
 -- `entry::singles::extensions_maybe` meets its contract, by the first octet.
 -- Assumes nothing.
 use borrow.Author.Needs.{needs}
-use Rattle.layout.specs.Format.{extensions, extensions-start}
+use Rattle.layout.specs.Format.{extensions}
 use Rattle.cert.specs.SeqCases.{filled-optional, optional-none}
 use Rattle.entry.specs.Tails.{extensionsOn}
 use Rattle.entry.proofs.singles.extensions_maybe.Statement.{statement}

@@ -2,7 +2,7 @@
 -- Assumes nothing.
 use borrow.Author.Needs.{needs}
 use Rattle.layout.specs.Format.{nextUpdate}
-use Rattle.cert.specs.SeqCases.{field-wrong, field-end, field-after, option-there, option-missing}
+use Rattle.cert.specs.SeqCases.{stamp-wrong, stamp-end, stamp-after, option-there, option-missing}
 use Rattle.entry.specs.Tails.{extensionsOn, nextOn}
 use Rattle.entry.proofs.singles.next_and_more.Statement.{statement}
 use Rattle.entry.proofs.singles.next_and_more.Tie as tie
@@ -13,17 +13,17 @@ starts-with-requires c κs = search needs
 read-next-requires : tie.Need-read-next-requires
 read-next-requires c κs = search needs
 
-enum-known-next : tie.Need-enum-known-next
-enum-known-next c = search needs
+enum-known-until : tie.Need-enum-known-until
+enum-known-until c = search needs
 
-enum-known-next-2 : tie.Need-enum-known-next-2
-enum-known-next-2 c = search needs
+enum-known-until-2 : tie.Need-enum-known-until-2
+enum-known-until-2 c = search needs
 
 sub-extensions-maybe : tie.Need-sub-extensions-maybe
-sub-extensions-maybe c = search (field-end nextUpdate)
+sub-extensions-maybe c = search (stamp-end nextUpdate)
 
 part-extensions-maybe-start : tie.Need-part-extensions-maybe-start
-part-extensions-maybe-start c = search (field-end nextUpdate)
+part-extensions-maybe-start c = search (stamp-end nextUpdate)
 
 part-extensions-maybe-end : tie.Need-part-extensions-maybe-end
 part-extensions-maybe-end c = search needs
@@ -39,11 +39,11 @@ extensions-maybe-requires-2 c κs = search needs
 
 returns : tie.Need-returns
 unfolding nextOn
-returns c = search (option-there 0xa0 nextUpdate extensionsOn, field-wrong nextUpdate)
+returns c = search (option-there 0xa0 nextUpdate extensionsOn, stamp-wrong nextUpdate)
 
 returns-2 : tie.Need-returns-2
 unfolding nextOn
-returns-2 c = search (option-there 0xa0 nextUpdate extensionsOn, field-after nextUpdate extensionsOn)
+returns-2 c = search (option-there 0xa0 nextUpdate extensionsOn, stamp-after nextUpdate extensionsOn)
 
 returns-3 : tie.Need-returns-3
 unfolding nextOn
@@ -55,8 +55,8 @@ next-and-more-spec =
     (tie.spec
     starts-with-requires
     read-next-requires
-    enum-known-next
-    enum-known-next-2
+    enum-known-until
+    enum-known-until-2
     sub-extensions-maybe
     part-extensions-maybe-start
     part-extensions-maybe-end

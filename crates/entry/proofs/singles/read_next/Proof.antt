@@ -1,10 +1,10 @@
--- `entry::singles::read_next` meets its contract, by the header and the content.
+-- `entry::singles::read_next` meets its contract, by the header and the time.
 -- Assumes nothing.
 use borrow.Author.Needs.{needs}
-use Rattle.codec.specs.Sequence.{only}
 use Rattle.layout.specs.Kinds.{time}
 use Rattle.layout.specs.Format.{nextUpdate}
-use Rattle.cert.specs.SeqCases.{tagged-wrong, tagged-sum, tagged-end, tagged-closed}
+use Rattle.cert.specs.SeqCases.{tagged-sum, tagged-end}
+use Rattle.entry.proofs.NextCases.{held-wrong, held-place, held-bad, held-whole, held-sum, held-left}
 use Rattle.entry.proofs.singles.read_next.Statement.{statement}
 use Rattle.entry.proofs.singles.read_next.Tie as tie
 
@@ -20,28 +20,45 @@ enum-known-spot-2 c = search needs
 add-end : tie.Need-add-end
 add-end c = search tagged-sum
 
-sub-time-alone : tie.Need-sub-time-alone
-sub-time-alone c = search needs
+sub-read-time : tie.Need-sub-read-time
+sub-read-time c = search needs
 
-part-time-alone-start : tie.Need-part-time-alone-start
-part-time-alone-start c = search needs
+part-read-time-start : tie.Need-part-read-time-start
+part-read-time-start c = search needs
 
-part-time-alone-end : tie.Need-part-time-alone-end
-part-time-alone-end c = search tagged-end
+part-read-time-end : tie.Need-part-read-time-end
+part-read-time-end c = search tagged-end
 
-time-alone-requires : tie.Need-time-alone-requires
-time-alone-requires c κs = search needs
+read-time-requires : tie.Need-read-time-requires
+read-time-requires c κs = search needs
 
-closed-requires : tie.Need-closed-requires
-closed-requires c κs = search needs
+enum-known-time : tie.Need-enum-known-time
+enum-known-time c = search needs
+
+add-place : tie.Need-add-place
+add-place c = search (held-place time)
+
+enum-known-time-2 : tie.Need-enum-known-time-2
+enum-known-time-2 c = search needs
 
 returns : tie.Need-returns
 unfolding nextUpdate
-returns c = search tagged-wrong
+returns c = search (held-whole time)
+
+add-place-2 : tie.Need-add-place-2
+add-place-2 c = search (held-sum time)
 
 returns-2 : tie.Need-returns-2
 unfolding nextUpdate
-returns-2 c = search (tagged-closed (only time))
+returns-2 c = search (held-wrong time)
+
+returns-3 : tie.Need-returns-3
+unfolding nextUpdate
+returns-3 c = search (held-bad time)
+
+returns-4 : tie.Need-returns-4
+unfolding nextUpdate
+returns-4 c = search (held-left time)
 
 pub read-next-spec : {M : Type 1} → statement M
 read-next-spec =
@@ -51,10 +68,15 @@ read-next-spec =
     enum-known-spot
     enum-known-spot-2
     add-end
-    sub-time-alone
-    part-time-alone-start
-    part-time-alone-end
-    time-alone-requires
-    closed-requires
+    sub-read-time
+    part-read-time-start
+    part-read-time-end
+    read-time-requires
+    enum-known-time
+    add-place
+    enum-known-time-2
     returns
-    returns-2)
+    add-place-2
+    returns-2
+    returns-3
+    returns-4)

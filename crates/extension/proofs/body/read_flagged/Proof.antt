@@ -2,7 +2,7 @@
 -- Assumes nothing.
 use borrow.Author.Needs.{needs}
 use Rattle.extension.specs.Pieces.{value, flagged}
-use Rattle.extension.proofs.BodyCases.{option-off, option-bad, option-fits, option-breaks, taken-end, taken-place}
+use Rattle.extension.proofs.Around.{option-off, option-bad, option-fits, option-breaks, taken-end, taken-place}
 use Rattle.extension.proofs.body.read_flagged.Statement.{statement}
 use Rattle.extension.proofs.body.read_flagged.Tie as tie
 

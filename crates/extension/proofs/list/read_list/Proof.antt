@@ -4,7 +4,8 @@
 use borrow.Author.Needs.{needs}
 use Prim.Native.Nat.{_-_}
 use lib.ListN.{length}
-use Rattle.extension.proofs.ListCases.{Reading, list-start, list-none, list-some, list-over, list-place, list-bad, list-sum, list-count, list-less, list-next}
+use Rattle.extension.proofs.Around.{step-place, step-sum, step-less}
+use Rattle.extension.proofs.ListCases.{Reading, list-start, list-none, list-some, list-over, list-bad, list-next}
 use Rattle.extension.proofs.list.read_list.Statement.{statement}
 use Rattle.extension.proofs.list.read_list.Tie as tie
 
@@ -36,7 +37,7 @@ enum-known-step : tie.Need-enum-known-step Inv-loop μ-loop
 enum-known-step c = search needs
 
 add-place : tie.Need-add-place Inv-loop μ-loop
-add-place c = search list-place
+add-place c = search step-place
 
 returns-2 : tie.Need-returns-2 Inv-loop μ-loop
 returns-2 c = search list-bad
@@ -45,13 +46,13 @@ enum-known-step-2 : tie.Need-enum-known-step-2 Inv-loop μ-loop
 enum-known-step-2 c = search needs
 
 add-at : tie.Need-add-at Inv-loop μ-loop
-add-at c = search list-sum
+add-at c = search step-sum
 
 add-count : tie.Need-add-count Inv-loop μ-loop
-add-count c = search list-count
+add-count c = search needs
 
 loop-less : tie.Need-loop-less Inv-loop μ-loop
-loop-less c = search list-less
+loop-less c = search step-less
 
 loop-again : tie.Need-loop-again Inv-loop μ-loop
 loop-again c = search list-next

@@ -2,7 +2,7 @@
 -- that is looked for.
 -- Assumes nothing.
 use borrow.Author.Needs.{needs}
-use Rattle.extension.proofs.NameCases.{Looking, look-start, look-end, look-none, look-first, look-last, look-part, look-sum, look-hit, look-next}
+use Rattle.extension.proofs.NameCases.{Looking, look-start, look-end, look-none, look-hit, look-next, place-first, place-last, place-end, place-next}
 use Rattle.extension.proofs.names.is_new.Statement.{statement}
 use Rattle.extension.proofs.names.is_new.Tie as tie
 
@@ -37,10 +37,10 @@ enum-known-name : tie.Need-enum-known-name Inv-loop μ-loop
 enum-known-name c = search needs
 
 add-first : tie.Need-add-first Inv-loop μ-loop
-add-first c = search look-first
+add-first c = search place-first
 
 add-last : tie.Need-add-last Inv-loop μ-loop
-add-last c = search look-last
+add-last c = search place-last
 
 sub-same : tie.Need-sub-same Inv-loop μ-loop
 sub-same c = search needs
@@ -49,7 +49,7 @@ part-same-start : tie.Need-part-same-start Inv-loop μ-loop
 part-same-start c = search needs
 
 part-same-end : tie.Need-part-same-end Inv-loop μ-loop
-part-same-end c = search look-part
+part-same-end c = search place-end
 
 same-requires : tie.Need-same-requires Inv-loop μ-loop
 same-requires c κs = search needs
@@ -58,7 +58,7 @@ returns-2 : tie.Need-returns-2 Inv-loop μ-loop
 returns-2 c = search look-hit
 
 add-at : tie.Need-add-at Inv-loop μ-loop
-add-at c = search look-sum
+add-at c = search place-next
 
 sub-left : tie.Need-sub-left Inv-loop μ-loop
 sub-left c = search needs
