@@ -30,7 +30,7 @@ fn revocation_of(s: &[u8]) -> Standing
 }
 
 // The status at the head of s.
-pub fn standing_of(s: &[u8]) -> Standing
+pub(crate) fn standing_of(s: &[u8]) -> Standing
     ensures { λ r. ⌜ StandingIs (now (s .entry)) r ⌝ }
 {
     if cert::starts_with(s, 0x80) {

@@ -1,42 +1,39 @@
--- The cases of the envelope's readers: what each return has learned of the headers, the type, the
--- string and the status.
+-- The cases of the envelope's readers: what each return has learned of the headers and the status.
 -- Assumes nothing.
 use Prim.Native.Nat.{ℕ, _+_, _-_, _^_, _≤_, _<_}
 use native.Mathlib.Omega.{arith}
 use mathlib.Core.Path.{_≡_, refl, sym, ap, _∙_}
-use mathlib.Core.Bool.{Bool, true, false, cond}
+use mathlib.Core.Bool.{Bool}
 use mathlib.Core.List.{List, [], _∷_}
 use mathlib.Core.Logic.{inl, inr}
 use lib.ListN.{length, take, drop, length-drop, drop-of-length-le}
-use lib.Seq.{take-all, length-take-le}
+use lib.Seq.{length-take-le}
 use borrow.Author.Tests.{eq-eqb, ne-eqb}
 use mir.Syntax.{w64}
 use mir.Val.{Fits}
-use Rattle.octets.specs.Same.{sameOf}
 use Rattle.element.specs.Header.{headerOf}
-use Rattle.codec.specs.Codec.{Read, read, broke, Got, got, bad, Whole, Element}
+use Rattle.codec.specs.Codec.{Read, read, broke, got, Whole}
 use Rattle.codec.specs.Outcome.{further, renamed}
 use Rattle.codec.specs.Mapped.{mappedDec}
-use Rattle.codec.specs.Sequence.{only, endDec, fieldDec, onlyDec}
+use Rattle.codec.specs.Sequence.{only, endDec, onlyDec}
 use Rattle.codec.specs.Branch.{branchDec, branch-then, branch-else, branch-bad}
 use Rattle.codec.specs.Tagged.{inner, taggedDec}
-use Rattle.layout.specs.Words.{anything, statusOk}
-use Rattle.layout.specs.Kinds.{oid, string, enumerated}
-use Rattle.layout.specs.Names.{Envelope, success, succeeds, EnvelopeParts, envelopeOf}
+use Rattle.layout.specs.Words.{statusOk}
+use Rattle.layout.specs.Kinds.{enumerated}
+use Rattle.layout.specs.Names.{Envelope, succeeds, EnvelopeParts, envelopeOf}
 use Rattle.layout.specs.Format.{responseBytes, envelopeBody}
-use Rattle.layout.specs.Read.{basicType}
-use Rattle.words.specs.Spots.{expected, spotOf, codeOf}
+use Rattle.words.specs.Spots.{expected, codeOf}
 use Rattle.words.specs.ExpectLaws.{expected-at}
-use Rattle.words.specs.Last.{last-oid, last-string}
-use Rattle.words.specs.SpotLaws.{spot-reads, spot-wrong, code-read, code-wrong}
+use Rattle.words.specs.SpotLaws.{code-read, code-wrong}
 use Rattle.words.specs.declared.Spot.{Spot}
 use Rattle.words.specs.declared.Spot.the-variants as spot
 use Rattle.words.specs.declared.Code.{Code}
 use Rattle.words.specs.declared.Code.the-variants as code
-use Rattle.envelope.specs.Cover.{typeString, covered, coverBy, coverOf, bytesOf, closedBy, placeIn}
-use Rattle.envelope.specs.CoverLaws.{cover-broken, only-wrong, only-fills, only-left, cover-wrong, cover-closed}
+use Rattle.envelope.specs.Cover.{covered, coverBy, coverOf, bytesOf, closedBy, placeIn}
+use Rattle.envelope.specs.CoverLaws.{cover-broken, cover-wrong, cover-closed}
 use Rattle.envelope.specs.declared.Cover.{Cover}
 use Rattle.envelope.specs.declared.Cover.the-variants as cover
+use Rattle.envelope.proofs.Lent.{rest-is, part-is}
 
 -- ── closed ──
 module _ (start end size : ℕ) (x : Cover) where
@@ -63,72 +60,6 @@ module _ (start end size : ℕ) (x : Cover) where
     pub closed-holds-left : (end ≡ size → ⊥) → cover.Broken end ≡ closedBy start end size x
     unfolding closedBy
     closed-holds-left i = rw (e, ne-eqb end size i)
-
--- ── the type and the string ──
--- what follows, as the code lends it
-rest-is : (n : ℕ) (s : List ℕ) → take (length s - n) (drop n s) ≡ drop n s
-rest-is n s = take-all (length s - n) (drop n s) (simp length-drop (omega arith))
-
-part-is : (b l : ℕ) (s : List ℕ) → take (b + l - b) (drop b s) ≡ take l (drop b s)
-part-is b l s = let e : b + l - b ≡ l = omega arith in rw e
-
-module _ (s : List ℕ) (r : Spot) (q : r ≡ spotOf (oid .dec s)) where
-  pub type-wrong : (p : ℕ) → r ≡ spot.Wrong p → cover.Broken p ≡ bytesOf (typeString .dec s)
-  unfolding coverBy typeString fieldDec
-  type-wrong p e = rw (spot-wrong oid s p (sym q ∙ e) .0)
-
-  module _ (b l : ℕ) (e : r ≡ spot.At b l) where
-    type-got : (oid .dec s ≡ got (take l (drop b s)) (b + l)) × (length (take l (drop b s)) ≡ l) × (b + l ≤ length s)
-    type-got = spot-reads oid last-oid s b l (sym q ∙ e)
-
-    pub type-end : b + l ≤ length s
-    type-end = type-got .2
-
-    pub type-sum : length s < 2 ^ 64 → Fits w64 (b + l)
-    type-sum z = record { fits = omega (arith, type-end) }
-
-    module _ (r′ : Spot) (q′ : r′ ≡ spotOf (string anything .dec (take (length s - (b + l)) (drop (b + l) s)))) where
-      string-is : spotOf (string anything .dec (drop (b + l) s)) ≡ r′
-      string-is = rw (rest-is (b + l) s) at (sym q′)
-
-      pub string-wrong : (p : ℕ) → r′ ≡ spot.Wrong p → cover.Broken (b + l + p) ≡ bytesOf (typeString .dec s)
-      unfolding coverBy typeString fieldDec
-      string-wrong p e′ =
-          let w = spot-wrong (string anything) (drop (b + l) s) p (string-is ∙ e′) .0 in
-          rw (type-got .0, only-wrong (string anything .dec) (drop (b + l) s) p w)
-
-      pub string-place : (p : ℕ) → r′ ≡ spot.Wrong p → length s < 2 ^ 64 → Fits w64 (b + l + p)
-      string-place p e′ z =
-          let w = spot-wrong (string anything) (drop (b + l) s) p (string-is ∙ e′) .1 in
-          record { fits = omega (arith, type-end, length-drop (b + l) s) }
-
-      module _ (h m : ℕ) (e′ : r′ ≡ spot.At h m) where
-        string-got : (string anything .dec (drop (b + l) s) ≡ got (take m (drop h (drop (b + l) s))) (h + m))
-            × (length (take m (drop h (drop (b + l) s))) ≡ m) × (h + m ≤ length (drop (b + l) s))
-        string-got = spot-reads (string anything) (last-string anything) (drop (b + l) s) h m (string-is ∙ e′)
-
-        string-end : b + l + h + m ≤ length s
-        string-end = omega (arith, string-got .2, type-end, length-drop (b + l) s)
-
-        pub string-from : length s < 2 ^ 64 → Fits w64 (b + l + h)
-        string-from z = record { fits = omega (arith, string-end) }
-
-        pub string-to : length s < 2 ^ 64 → Fits w64 (b + l + h + m)
-        string-to z = record { fits = omega (arith, string-end) }
-
-        pub string-fills : (z : Bool) → z ≡ sameOf (take (b + l - b) (drop b s)) basicType → b + l + h + m ≡ length s
-            → cover.Holds z m ≡ bytesOf (typeString .dec s)
-        unfolding coverBy covered typeString fieldDec
-        string-fills z k i =
-            let le : length (drop (b + l) s) ≤ h + m = simp length-drop (omega arith) in
-            rw (type-got .0, only-fills (string anything .dec) (drop (b + l) s) _ (h + m) (string-got .0) le, string-got .1, ← part-is b l s, ← k)
-
-        pub string-left : (b + l + h + m ≡ length s → ⊥) → cover.Broken (b + l + h + m) ≡ bytesOf (typeString .dec s)
-        unfolding coverBy typeString fieldDec
-        string-left n =
-            let lt : h + m < length (drop (b + l) s) = simp length-drop (omega (arith, string-end)) in
-            let j : b + l + h + m ≡ b + l + (h + m) = omega arith in
-            rw (type-got .0, only-left (string anything .dec) (drop (b + l) s) _ (h + m) (string-got .0) lt, j)
 
 -- ── an element that is to fill its holder ──
 module _ (t : ℕ) (s : List ℕ) (r : Spot) (q : r ≡ expected t (headerOf s)) where

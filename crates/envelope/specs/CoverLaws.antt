@@ -10,11 +10,11 @@ use mathlib.Core.Bool.{Bool, true, false, cond}
 use mathlib.Core.List.{List, [], _∷_}
 use lib.Dec.{eqb}
 use lib.ListN.{length, take, drop, length-drop, drop-of-length-le}
-use borrow.Author.Tests.{eqb-true, eqb-false, eq-eqb, ne-eqb}
+use borrow.Author.Tests.{eqb-true, eqb-false}
 use Rattle.octets.specs.Same.{sameOf}
 use Rattle.element.specs.Header.{headerOf}
 use Rattle.codec.specs.Codec.{Read, read, broke, Got, got, bad}
-use Rattle.codec.specs.Outcome.{further, renamed, onGot, attach}
+use Rattle.codec.specs.Outcome.{further, renamed, attach}
 use Rattle.codec.specs.Mapped.{mappedDec}
 use Rattle.codec.specs.Sequence.{endDec, fieldDec, onlyDec}
 use Rattle.codec.specs.Tagged.{inner, taggedDec}
@@ -24,7 +24,6 @@ use Rattle.words.specs.Spots.{expected}
 use Rattle.words.specs.ExpectLaws.{never, expected-at, tagged-at, tagged-wrong}
 use Rattle.words.specs.declared.Spot.the-variants as spot
 use Rattle.envelope.specs.Cover.{covered, coverBy, closedBy}
-use Rattle.envelope.specs.declared.Cover.{Cover}
 use Rattle.envelope.specs.declared.Cover.the-variants as cover
 
 -- ── what an answer tells ──

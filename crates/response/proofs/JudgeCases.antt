@@ -13,13 +13,13 @@ use mir.Val.{Fits}
 use Rattle.octets.specs.Same.{sameOf}
 use Rattle.octets.specs.OctetsLaws.{octets-take, octets-drop}
 use Rattle.element.specs.Header.{headerOf}
-use Rattle.codec.specs.Codec.{Read, read, broke, Got, got, bad}
+use Rattle.codec.specs.Codec.{Read, read, broke, got}
 use Rattle.codec.specs.Outcome.{attach}
 use Rattle.codec.specs.Tagged.{inner, taggedDec}
-use Rattle.layout.specs.Reading.{Basic, basic}
+use Rattle.layout.specs.Reading.{Basic}
 use Rattle.layout.specs.Names.{Envelope, failure, success}
 use Rattle.layout.specs.Format.{basicBody, basicResponse, envelope}
-use Rattle.layout.specs.Read.{basicType, reads, innerReading, envelopeReading, reading}
+use Rattle.layout.specs.Read.{basicType, innerReading, envelopeReading, reading}
 use Rattle.layout.specs.InnerLaws.{string-read}
 use Rattle.layout.specs.Theorem.{inner-place}
 use Rattle.words.specs.Spots.{expected}
@@ -51,10 +51,6 @@ body-read at (broke j) t e = never (cc)
 body-read at (read b) t e = (b, refl, cc)
 
 -- ── the basic response, from a place to the end ──
--- what the place's octets are read as
-abbrev judgedFrom : List ℕ → ℕ → Judged
-judgedFrom s from = judgedAs (length s) (innerReading from (basicResponse .dec (drop from s)))
-
 module _ (s : List ℕ) (from : ℕ) (pre : (from ≤ length s) × (length s ≤ 16384)) (x : Spot)
     (q : x ≡ expected 0x30 (headerOf (take (length s - from) (drop from s)))) where
   expected-is : expected 0x30 (headerOf (drop from s)) ≡ x

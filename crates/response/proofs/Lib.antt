@@ -1,5 +1,9 @@
 pub mod Lent
-pub mod SignedCases
 pub mod TailCases
+pub mod ListCases
+pub mod SignedCases
+pub mod Sizes
 pub mod BasicCases
 pub mod JudgeCases
+pub mod ShownCases
+pub mod EntryCases

@@ -3,15 +3,14 @@
 use Prim.Native.Nat.{ℕ, _+_, _-_, _^_, _≤_, _<_}
 use native.Mathlib.Omega.{arith}
 use mathlib.Core.Path.{_≡_, refl, sym, ap, _∙_}
-use mathlib.Core.List.{List, _++_}
+use mathlib.Core.List.{List}
 use mathlib.Core.Option.{Option}
 use lib.ListN.{length, take, drop, length-drop, length-append}
 use mir.Syntax.{w64}
 use mir.Val.{Fits}
 use Rattle.octets.specs.OctetsLaws.{octets-drop}
-use Rattle.codec.specs.Codec.{Read, read, broke, Got, got, bad}
+use Rattle.codec.specs.Codec.{Read, read, broke, got}
 use Rattle.codec.specs.CodecLaws.{got-size}
-use Rattle.codec.specs.Outcome.{further}
 use Rattle.codec.specs.Sequence.{fieldDec}
 use Rattle.codec.specs.Tree.{Tree}
 use Rattle.codec.specs.Views.{stepOf, fitOf}

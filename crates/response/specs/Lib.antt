@@ -1,3 +1,10 @@
 pub mod Parts
+pub mod Stands
 pub mod PartsLaws
+pub mod Shown
+pub mod ShownLaws
+pub mod Steps
+pub mod StepsLaws
+pub mod EntryLaws
 pub mod Views
+pub mod Examples

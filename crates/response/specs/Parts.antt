@@ -4,14 +4,13 @@
 -- PartsLaws.
 -- Assumes nothing.
 use Prim.Native.Nat.{ℕ, _+_, _-_}
-use mathlib.Core.Bool.{Bool, true, false, cond}
+use mathlib.Core.Bool.{cond}
 use mathlib.Core.List.{List}
-use mathlib.Core.Option.{Option}
 use lib.Dec.{ltb}
 use lib.ListN.{length}
 use Rattle.codec.specs.Option.{optionEnc}
 use Rattle.codec.specs.Many.{forms}
-use Rattle.layout.specs.Reading.{Signed, Basic, Reading, failed, basic}
+use Rattle.layout.specs.Reading.{Signed, Basic, failed, basic}
 use Rattle.layout.specs.Kinds.{time}
 use Rattle.layout.specs.Format.{algorithmIdentifier, extensions, singleResponse, responderId, responses, signedBody, responseData, signatureBits, certificates, basicBody}
 use Rattle.layout.specs.Read.{Outcome, reads, otherType, unfit, reading}

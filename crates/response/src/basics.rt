@@ -115,7 +115,7 @@ fn basic_body(s: &[u8], at: usize) -> Body
 }
 
 // The basic response that stands from this place to the end of s.
-pub fn judge_basic(s: &[u8], from: usize) -> Judged
+pub(crate) fn judge_basic(s: &[u8], from: usize) -> Judged
     requires { ⌜ (from ≤ length (now s)) × (length (now s) ≤ 16384) ⌝ }
     ensures { λ r. ⌜ r ≡ judgedAs (length (now (s .entry))) (innerReading from (basicResponse .dec (drop from (now (s .entry))))) ⌝ }
 {

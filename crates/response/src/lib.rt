@@ -4,9 +4,16 @@
 // part that is shown is a part of the caller's own octets.
 mod basics; // the basic response
 mod whole; // the response as a whole
+mod entries; // the entries one by one
+mod shown; // the signed part, the signature and the refusal
 mod signed; // the signed part's content
 mod tails; // what follows the signed part
 
+pub use entries::entry_at;
+pub use shown::refusal_of;
+pub use shown::refuse;
+pub use shown::signature;
+pub use shown::signed_part;
 pub use whole::judge;
 
 // Some octets of a response: where they start, and how many they are.
@@ -47,4 +54,22 @@ pub enum Judged {
     Failed(u8),
     // A response of another type (5).
     OtherType,
+}
+
+// What is refused before any question is asked.
+pub struct Refusal {
+    // Document 01's number, 2 to 5; 0 where there is no refusal.
+    pub number: u8,
+    // The response status, with 4; else 0.
+    pub status: u8,
+}
+
+// What stands at an ordinal among the entries.
+pub enum Entry {
+    // The entry, header included: it starts at start and is len octets long.
+    At { start: usize, len: usize },
+    // There are no more entries.
+    End,
+    // Why there are none at all.
+    Refused { number: u8, status: u8 },
 }

@@ -1,13 +1,10 @@
+-- `envelope::bytes_sequence` meets its contract, by the header and the content.
+-- Assumes nothing.
 use borrow.Author.Needs.{needs}
 use Rattle.envelope.specs.Cover.{typeSequence}
 use Rattle.envelope.proofs.CoverCases.{held-sum, held-end, held-place, held-wrong, held-closed}
 use Rattle.envelope.proofs.bytes_sequence.Statement.{statement}
 use Rattle.envelope.proofs.bytes_sequence.Tie as tie
-use Rattle.envelope.proofs.bytes_sequence.Reads as reads
-use Rattle.envelope.proofs.bytes_sequence.Lts as lts
-use Rattle.envelope.proofs.closed.Reads as closed-reads
-use Rattle.envelope.proofs.type_and_string.Reads as type-and-string-reads
-use Rattle.words.proofs.expect.Reads as expect-reads
 
 expect-requires : tie.Need-expect-requires
 expect-requires c κs = search needs

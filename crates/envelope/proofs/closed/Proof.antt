@@ -1,9 +1,9 @@
+-- `envelope::closed` meets its contract, by what the content was found to be.
+-- Assumes nothing.
 use borrow.Author.Needs.{needs}
 use Rattle.envelope.proofs.CoverCases.{place-sum, closed-broken, closed-failed, closed-failed-left, closed-holds, closed-holds-left}
 use Rattle.envelope.proofs.closed.Statement.{statement}
 use Rattle.envelope.proofs.closed.Tie as tie
-use Rattle.envelope.proofs.closed.Reads as reads
-use Rattle.envelope.proofs.closed.Lts as lts
 
 enum-known-inner : tie.Need-enum-known-inner
 enum-known-inner c = search needs

@@ -1,12 +1,9 @@
+-- `envelope::envelope_body` meets its contract, by the status and what follows it.
+-- Assumes nothing.
 use borrow.Author.Needs.{needs}
 use Rattle.envelope.proofs.CoverCases.{status-wrong, status-inside, bytes-place, bytes-closed, error-alone, error-left}
 use Rattle.envelope.proofs.envelope_body.Statement.{statement}
 use Rattle.envelope.proofs.envelope_body.Tie as tie
-use Rattle.envelope.proofs.envelope_body.Reads as reads
-use Rattle.envelope.proofs.envelope_body.Lts as lts
-use Rattle.envelope.proofs.closed.Reads as closed-reads
-use Rattle.envelope.proofs.response_bytes.Reads as response-bytes-reads
-use Rattle.words.proofs.read_code.Reads as read-code-reads
 
 read-code-requires : tie.Need-read-code-requires
 read-code-requires c κs = search needs

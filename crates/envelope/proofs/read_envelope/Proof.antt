@@ -1,13 +1,10 @@
+-- `envelope::read_envelope` meets its contract, by the header and the content.
+-- Assumes nothing.
 use borrow.Author.Needs.{needs}
 use Rattle.layout.specs.Format.{envelope}
 use Rattle.envelope.proofs.CoverCases.{held-sum, held-end, held-place, held-wrong, held-closed}
 use Rattle.envelope.proofs.read_envelope.Statement.{statement}
 use Rattle.envelope.proofs.read_envelope.Tie as tie
-use Rattle.envelope.proofs.read_envelope.Reads as reads
-use Rattle.envelope.proofs.read_envelope.Lts as lts
-use Rattle.envelope.proofs.closed.Reads as closed-reads
-use Rattle.envelope.proofs.envelope_body.Reads as envelope-body-reads
-use Rattle.words.proofs.expect.Reads as expect-reads
 
 expect-requires : tie.Need-expect-requires
 expect-requires c κs = search needs

@@ -1,14 +1,11 @@
+-- `envelope::response_bytes` meets its contract, by the header and the content.
+-- Assumes nothing.
 use borrow.Author.Needs.{needs}
 use Rattle.layout.specs.Format.{responseBytes}
 use Rattle.envelope.specs.Cover.{typeSequence, typeString}
 use Rattle.envelope.proofs.CoverCases.{held-sum, held-end, held-place, held-wrong, held-closed}
 use Rattle.envelope.proofs.response_bytes.Statement.{statement}
 use Rattle.envelope.proofs.response_bytes.Tie as tie
-use Rattle.envelope.proofs.response_bytes.Reads as reads
-use Rattle.envelope.proofs.response_bytes.Lts as lts
-use Rattle.envelope.proofs.bytes_sequence.Reads as bytes-sequence-reads
-use Rattle.envelope.proofs.closed.Reads as closed-reads
-use Rattle.words.proofs.expect.Reads as expect-reads
 
 expect-requires : tie.Need-expect-requires
 expect-requires c κs = search needs

@@ -1,12 +1,9 @@
+-- `envelope::type_and_string` meets its contract, by the type and the string.
+-- Assumes nothing.
 use borrow.Author.Needs.{needs}
-use Rattle.envelope.proofs.CoverCases.{type-wrong, type-sum, type-end, string-place, string-from, string-to, string-wrong, string-fills, string-left}
+use Rattle.envelope.proofs.StringCases.{type-wrong, type-sum, type-end, string-place, string-from, string-to, string-wrong, string-fills, string-left}
 use Rattle.envelope.proofs.type_and_string.Statement.{statement}
 use Rattle.envelope.proofs.type_and_string.Tie as tie
-use Rattle.envelope.proofs.type_and_string.Reads as reads
-use Rattle.envelope.proofs.type_and_string.Lts as lts
-use Rattle.octets.proofs.same.Reads as same-reads
-use Rattle.words.proofs.read_any_string.Reads as read-any-string-reads
-use Rattle.words.proofs.read_oid.Reads as read-oid-reads
 
 read-oid-requires : tie.Need-read-oid-requires
 read-oid-requires c κs = search needs

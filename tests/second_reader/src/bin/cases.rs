@@ -15,6 +15,7 @@ cases generate SEED COUNT      cases made from a seed
 cases answers < STREAM         one line of answer for each case
 cases places < STREAM          the place for each desk case that gives 3, else -
 cases counts < STREAM          how often each outcome comes
+cases only OPS SIZE < STREAM   the cases of these operations (as 2,3,4) with at most SIZE octets
 cases show INDEX < STREAM      one case in hex, with its answer and place
 cases table DIR                the table of published responses";
 
@@ -52,6 +53,12 @@ fn run(words: &[&str]) -> Result<(), String> {
             read_input()?.iter().for_each(|record| counts.add(record));
             print!("{}", counts.text());
             Ok(())
+        }
+        ["only", operations, size] => {
+            let wanted = operations.split(',').map(number).collect::<Result<Vec<u64>, String>>()?;
+            let size = number(size)? as usize;
+            let kept = |record: &Record| wanted.contains(&u64::from(record.operation)) && record.body.len() <= size;
+            write_stream(read_input()?.into_iter().filter(kept))
         }
         ["show", index] => {
             let records = read_input()?;

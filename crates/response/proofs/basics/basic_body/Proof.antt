@@ -4,11 +4,6 @@ use borrow.Author.Needs.{needs}
 use Rattle.response.proofs.BasicCases.{basic-place, basic-wrong, basic-end, basic-sum, content-sum, after-sum, inside-place, inside-wrong, tail-place, tail-wrong, entries-sum, extensions-sum, extensions-before, signature-sum, certificates-sum, certificates-before, body-found}
 use Rattle.response.proofs.basics.basic_body.Statement.{statement}
 use Rattle.response.proofs.basics.basic_body.Tie as tie
-use Rattle.response.proofs.basics.basic_body.Reads as reads
-use Rattle.response.proofs.basics.basic_body.Lts as lts
-use Rattle.response.proofs.signed.signed_body.Reads as signed-body-reads
-use Rattle.response.proofs.tails.algorithm_and_more.Reads as algorithm-and-more-reads
-use Rattle.words.proofs.expect.Reads as expect-reads
 
 expect-requires : tie.Need-expect-requires
 expect-requires c κs = search needs

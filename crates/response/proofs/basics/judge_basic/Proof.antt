@@ -4,10 +4,6 @@ use borrow.Author.Needs.{needs}
 use Rattle.response.proofs.JudgeCases.{string-place, string-wrong, body-end, body-start, body-sum, body-small, body-wrong, body-fills, body-left}
 use Rattle.response.proofs.basics.judge_basic.Statement.{statement}
 use Rattle.response.proofs.basics.judge_basic.Tie as tie
-use Rattle.response.proofs.basics.judge_basic.Reads as reads
-use Rattle.response.proofs.basics.judge_basic.Lts as lts
-use Rattle.response.proofs.basics.basic_body.Reads as basic-body-reads
-use Rattle.words.proofs.expect.Reads as expect-reads
 
 sub-expect : tie.Need-sub-expect
 sub-expect c = search needs

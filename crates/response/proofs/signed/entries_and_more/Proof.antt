@@ -1,14 +1,9 @@
 -- `response::signed::entries_and_more` meets its contract, by the entries and what follows them.
 -- Assumes nothing.
 use borrow.Author.Needs.{needs}
-use Rattle.response.proofs.SignedCases.{entries-wrong, entries-end, entries-sum, entries-place, entries-broken, more-place, more-broken, entries-found}
+use Rattle.response.proofs.ListCases.{entries-wrong, entries-end, entries-sum, entries-place, entries-broken, more-place, more-broken, entries-found}
 use Rattle.response.proofs.signed.entries_and_more.Statement.{statement}
 use Rattle.response.proofs.signed.entries_and_more.Tie as tie
-use Rattle.response.proofs.signed.entries_and_more.Reads as reads
-use Rattle.response.proofs.signed.entries_and_more.Lts as lts
-use Rattle.entry.proofs.read_entries.Reads as read-entries-reads
-use Rattle.response.proofs.signed.extensions_maybe.Reads as extensions-maybe-reads
-use Rattle.words.proofs.expect.Reads as expect-reads
 
 expect-requires : tie.Need-expect-requires
 expect-requires c κs = search needs

@@ -6,11 +6,6 @@ use Rattle.cert.specs.SeqCases.{filled-optional, optional-none}
 use Rattle.layout.specs.Format.{extensions}
 use Rattle.response.proofs.signed.extensions_maybe.Statement.{statement}
 use Rattle.response.proofs.signed.extensions_maybe.Tie as tie
-use Rattle.response.proofs.signed.extensions_maybe.Reads as reads
-use Rattle.response.proofs.signed.extensions_maybe.Lts as lts
-use Rattle.cert.proofs.filled.Reads as filled-reads
-use Rattle.cert.proofs.starts_with.Reads as starts-with-reads
-use Rattle.extension.proofs.read_extensions.Reads as read-extensions-reads
 
 starts-with-requires : tie.Need-starts-with-requires
 starts-with-requires c κs = search needs

@@ -4,10 +4,6 @@ use borrow.Author.Needs.{needs}
 use Rattle.response.proofs.SignedCases.{produced-wrong, produced-end, listed-place, listed-broken, listed-sum, listed-found}
 use Rattle.response.proofs.signed.produced_and_more.Statement.{statement}
 use Rattle.response.proofs.signed.produced_and_more.Tie as tie
-use Rattle.response.proofs.signed.produced_and_more.Reads as reads
-use Rattle.response.proofs.signed.produced_and_more.Lts as lts
-use Rattle.response.proofs.signed.entries_and_more.Reads as entries-and-more-reads
-use Rattle.words.proofs.read_time.Reads as read-time-reads
 
 read-time-requires : tie.Need-read-time-requires
 read-time-requires c κs = search needs

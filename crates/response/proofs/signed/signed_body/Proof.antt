@@ -4,10 +4,6 @@ use borrow.Author.Needs.{needs}
 use Rattle.response.proofs.SignedCases.{responder-wrong, responder-end, produced-place, produced-broken, produced-sum, inside-found}
 use Rattle.response.proofs.signed.signed_body.Statement.{statement}
 use Rattle.response.proofs.signed.signed_body.Tie as tie
-use Rattle.response.proofs.signed.signed_body.Reads as reads
-use Rattle.response.proofs.signed.signed_body.Lts as lts
-use Rattle.response.proofs.signed.produced_and_more.Reads as produced-and-more-reads
-use Rattle.signer.proofs.read_responder.Reads as read-responder-reads
 
 read-responder-requires : tie.Need-read-responder-requires
 read-responder-requires c κs = search needs

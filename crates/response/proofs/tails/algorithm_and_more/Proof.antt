@@ -4,10 +4,6 @@ use borrow.Author.Needs.{needs}
 use Rattle.response.proofs.TailCases.{algorithm-wrong, algorithm-end, rest-place, rest-wrong, tail-sum, tail-found}
 use Rattle.response.proofs.tails.algorithm_and_more.Statement.{statement}
 use Rattle.response.proofs.tails.algorithm_and_more.Tie as tie
-use Rattle.response.proofs.tails.algorithm_and_more.Reads as reads
-use Rattle.response.proofs.tails.algorithm_and_more.Lts as lts
-use Rattle.cert.proofs.read_algorithm.Reads as read-algorithm-reads
-use Rattle.response.proofs.tails.signature_and_more.Reads as signature-and-more-reads
 
 read-algorithm-requires : tie.Need-read-algorithm-requires
 read-algorithm-requires c κs = search needs

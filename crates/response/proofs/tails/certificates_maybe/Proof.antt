@@ -6,11 +6,6 @@ use Rattle.cert.specs.SeqCases.{filled-optional, optional-none}
 use Rattle.layout.specs.Format.{certificates}
 use Rattle.response.proofs.tails.certificates_maybe.Statement.{statement}
 use Rattle.response.proofs.tails.certificates_maybe.Tie as tie
-use Rattle.response.proofs.tails.certificates_maybe.Reads as reads
-use Rattle.response.proofs.tails.certificates_maybe.Lts as lts
-use Rattle.cert.proofs.filled.Reads as filled-reads
-use Rattle.cert.proofs.starts_with.Reads as starts-with-reads
-use Rattle.signer.proofs.read_certificates.Reads as read-certificates-reads
 
 starts-with-requires : tie.Need-starts-with-requires
 starts-with-requires c κs = search needs

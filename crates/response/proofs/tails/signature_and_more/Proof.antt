@@ -4,10 +4,6 @@ use borrow.Author.Needs.{needs}
 use Rattle.response.proofs.TailCases.{signature-wrong, signature-end, signature-sum, certificates-place, certificates-wrong, signature-found}
 use Rattle.response.proofs.tails.signature_and_more.Statement.{statement}
 use Rattle.response.proofs.tails.signature_and_more.Tie as tie
-use Rattle.response.proofs.tails.signature_and_more.Reads as reads
-use Rattle.response.proofs.tails.signature_and_more.Lts as lts
-use Rattle.response.proofs.tails.certificates_maybe.Reads as certificates-maybe-reads
-use Rattle.words.proofs.read_bits.Reads as read-bits-reads
 
 read-bits-requires : tie.Need-read-bits-requires
 read-bits-requires c κs = search needs

@@ -4,10 +4,6 @@ use borrow.Author.Needs.{needs}
 use Rattle.response.proofs.JudgeCases.{too-long, envelope-wrong, envelope-failed, string-inside, type-other, type-basic}
 use Rattle.response.proofs.whole.judge.Statement.{statement}
 use Rattle.response.proofs.whole.judge.Tie as tie
-use Rattle.response.proofs.whole.judge.Reads as reads
-use Rattle.response.proofs.whole.judge.Lts as lts
-use Rattle.envelope.proofs.read_envelope.Reads as read-envelope-reads
-use Rattle.response.proofs.basics.judge_basic.Reads as judge-basic-reads
 
 returns : tie.Need-returns
 returns c = search too-long

@@ -1,7 +1,7 @@
 -- `signer::certificates::certificate_run` meets its contract. The loop is at a place up to which count
 -- certificates are read.
 -- Assumes nothing.
-use Prim.Native.Nat.{_+_, _≤_, _-_}
+use Prim.Native.Nat.{_≤_, _-_}
 use native.Mathlib.Omega.{arith}
 use mathlib.Core.Path.{_≡_}
 use lib.ListN.{length, drop}
@@ -12,9 +12,6 @@ use Rattle.signer.specs.Run.{certificateRun}
 use Rattle.signer.proofs.RunCases.{fitUpto, run-start, run-end, run-over, run-place, run-bad, run-inside, run-sum, run-less, run-count, run-next}
 use Rattle.signer.proofs.certificates.certificate_run.Statement.{statement}
 use Rattle.signer.proofs.certificates.certificate_run.Tie as tie
-use Rattle.signer.proofs.certificates.certificate_run.Reads as reads
-use Rattle.signer.proofs.certificates.certificate_run.Lts as lts
-use Rattle.tree.proofs.read_tree_tagged.Reads as read-tree-tagged-reads
 
 abbrev Inv-loop : tie.InvT-loop
 Inv-loop s at₀ count₀ at count =

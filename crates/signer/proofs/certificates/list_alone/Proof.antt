@@ -6,10 +6,6 @@ use Rattle.cert.specs.SeqCases.{filled-only}
 use Rattle.layout.specs.Kinds.{sequence}
 use Rattle.signer.proofs.certificates.list_alone.Statement.{statement}
 use Rattle.signer.proofs.certificates.list_alone.Tie as tie
-use Rattle.signer.proofs.certificates.list_alone.Reads as reads
-use Rattle.signer.proofs.certificates.list_alone.Lts as lts
-use Rattle.cert.proofs.filled.Reads as filled-reads
-use Rattle.signer.proofs.certificates.read_list.Reads as read-list-reads
 
 read-list-requires : tie.Need-read-list-requires
 read-list-requires c κs = search needs

@@ -8,11 +8,6 @@ use Rattle.layout.specs.Kinds.{sequence}
 use Rattle.codec.specs.Sequence.{only}
 use Rattle.signer.proofs.certificates.read_certificates.Statement.{statement}
 use Rattle.signer.proofs.certificates.read_certificates.Tie as tie
-use Rattle.signer.proofs.certificates.read_certificates.Reads as reads
-use Rattle.signer.proofs.certificates.read_certificates.Lts as lts
-use Rattle.cert.proofs.closed.Reads as closed-reads
-use Rattle.signer.proofs.certificates.list_alone.Reads as list-alone-reads
-use Rattle.words.proofs.expect.Reads as expect-reads
 
 expect-requires : tie.Need-expect-requires
 expect-requires c κs = search needs

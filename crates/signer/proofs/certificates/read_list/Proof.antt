@@ -5,11 +5,6 @@ use Rattle.signer.specs.Run.{certificateRun}
 use Rattle.cert.specs.SeqCases.{tagged-wrong, tagged-sum, tagged-end, tagged-closed}
 use Rattle.signer.proofs.certificates.read_list.Statement.{statement}
 use Rattle.signer.proofs.certificates.read_list.Tie as tie
-use Rattle.signer.proofs.certificates.read_list.Reads as reads
-use Rattle.signer.proofs.certificates.read_list.Lts as lts
-use Rattle.cert.proofs.closed.Reads as closed-reads
-use Rattle.signer.proofs.certificates.certificate_run.Reads as certificate-run-reads
-use Rattle.words.proofs.expect.Reads as expect-reads
 
 expect-requires : tie.Need-expect-requires
 expect-requires c κs = search needs

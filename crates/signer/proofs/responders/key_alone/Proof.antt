@@ -8,10 +8,6 @@ use Rattle.layout.specs.Kinds.{string}
 use Rattle.layout.specs.Words.{between}
 use Rattle.signer.proofs.responders.key_alone.Statement.{statement}
 use Rattle.signer.proofs.responders.key_alone.Tie as tie
-use Rattle.signer.proofs.responders.key_alone.Reads as reads
-use Rattle.signer.proofs.responders.key_alone.Lts as lts
-use Rattle.cert.proofs.filled.Reads as filled-reads
-use Rattle.words.proofs.read_string.Reads as read-string-reads
 
 read-string-requires : tie.Need-read-string-requires
 read-string-requires c κs = search needs

@@ -5,10 +5,6 @@ use Rattle.cert.specs.SeqCases.{filled-only}
 use Rattle.layout.specs.Kinds.{freeSequence}
 use Rattle.signer.proofs.responders.name_alone.Statement.{statement}
 use Rattle.signer.proofs.responders.name_alone.Tie as tie
-use Rattle.signer.proofs.responders.name_alone.Reads as reads
-use Rattle.signer.proofs.responders.name_alone.Lts as lts
-use Rattle.cert.proofs.filled.Reads as filled-reads
-use Rattle.tree.proofs.read_tree_tagged.Reads as read-tree-tagged-reads
 
 read-tree-tagged-requires : tie.Need-read-tree-tagged-requires
 read-tree-tagged-requires c κs = search needs

@@ -8,11 +8,6 @@ use Rattle.layout.specs.Words.{between}
 use Rattle.codec.specs.Sequence.{only}
 use Rattle.signer.proofs.responders.read_key.Statement.{statement}
 use Rattle.signer.proofs.responders.read_key.Tie as tie
-use Rattle.signer.proofs.responders.read_key.Reads as reads
-use Rattle.signer.proofs.responders.read_key.Lts as lts
-use Rattle.cert.proofs.closed.Reads as closed-reads
-use Rattle.signer.proofs.responders.key_alone.Reads as key-alone-reads
-use Rattle.words.proofs.expect.Reads as expect-reads
 
 expect-requires : tie.Need-expect-requires
 expect-requires c κs = search needs

@@ -7,11 +7,6 @@ use Rattle.layout.specs.Kinds.{freeSequence}
 use Rattle.codec.specs.Sequence.{only}
 use Rattle.signer.proofs.responders.read_name.Statement.{statement}
 use Rattle.signer.proofs.responders.read_name.Tie as tie
-use Rattle.signer.proofs.responders.read_name.Reads as reads
-use Rattle.signer.proofs.responders.read_name.Lts as lts
-use Rattle.cert.proofs.closed.Reads as closed-reads
-use Rattle.signer.proofs.responders.name_alone.Reads as name-alone-reads
-use Rattle.words.proofs.expect.Reads as expect-reads
 
 expect-requires : tie.Need-expect-requires
 expect-requires c κs = search needs

@@ -5,11 +5,6 @@ use Rattle.cert.specs.SeqCases.{choice-first, choice-second, named-element}
 use Rattle.layout.specs.Format.{responderId}
 use Rattle.signer.proofs.responders.read_responder.Statement.{statement}
 use Rattle.signer.proofs.responders.read_responder.Tie as tie
-use Rattle.signer.proofs.responders.read_responder.Reads as reads
-use Rattle.signer.proofs.responders.read_responder.Lts as lts
-use Rattle.cert.proofs.starts_with.Reads as starts-with-reads
-use Rattle.signer.proofs.responders.read_key.Reads as read-key-reads
-use Rattle.signer.proofs.responders.read_name.Reads as read-name-reads
 
 starts-with-requires : tie.Need-starts-with-requires
 starts-with-requires c κs = search needs
