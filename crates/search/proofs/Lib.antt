@@ -1,0 +1,2 @@
+pub mod FoundCases
+pub mod SearchTurns
