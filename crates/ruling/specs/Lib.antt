@@ -14,3 +14,11 @@ pub mod OneCard
 pub mod EntriesLaws
 pub mod OneCardLaws
 pub mod Examples
+pub mod SignerIn
+pub mod SignerInLaws
+pub mod StrangePlace
+pub mod StrangeInLaws
+pub mod EntryRuled
+pub mod Opened
+pub mod CardRuled
+pub mod CheckLaws

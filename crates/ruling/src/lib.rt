@@ -1,9 +1,18 @@
 // The check: what a response says of one card, for one signer and verdict, at one time.
 //
 // No public function here has a requirement: a question out of range is answered with refusal 1.
+mod cards; // one card, and the check
+mod entries; // one entry, and what is accepted
+mod opened; // the response as a whole
 mod ranges; // the question's ranges
+mod signs; // who signed
+mod understood; // critical extensions that are not understood
 
 use answer::Card;
+pub use cards::check;
+pub use cards::rule_card;
+pub use opened::Opened;
+pub use opened::open;
 pub use ranges::question_fits;
 
 // The question, but for the signer's Name, which is lent beside it. Verdict, role and marks are the

@@ -1,0 +1,52 @@
+// One card (refusals 10 to 16), and the check.
+use crate::Question;
+use crate::entries;
+use crate::opened;
+use crate::opened::Opened;
+use crate::ranges;
+use answer::Answer;
+use search::Found;
+ghost use mathlib.Core.Path.{_≡_};
+ghost use Rattle.ruling.specs.CardRuled.{cardRuled};
+ghost use Rattle.ruling.specs.Ruling.{answerOf};
+
+// What a response that is not refused says of the card, by the octets of its entries.
+pub fn rule_card(q: Question, part: &[u8]) -> Answer
+    ensures { λ r. ⌜ r ≡ cardRuled q (now (part .entry)) ⌝ }
+{
+    let card = q.card;
+    let found = search::search(part, card);
+    match found {
+        Found::None(_) => answer::refuse(10, 0),
+        Found::Two {
+            first: _,
+            second: _,
+        } => answer::refuse(11, 0),
+        Found::One {
+            ordinal: _,
+            start,
+            len,
+        } => {
+            let end = start + len;
+            entries::rule_entry(q, &part[start..end])
+        }
+    }
+}
+
+// What a response says for a question: the first refusal that applies, else what the only entry for
+// the card says.
+pub fn check(q: Question, name: &[u8], s: &[u8]) -> Answer
+    ensures { λ r. ⌜ r ≡ answerOf q (now (name .entry)) (now (s .entry)) ⌝ }
+{
+    if !ranges::question_fits(q, name) {
+        return answer::refuse(1, 0);
+    }
+    let opened = opened::open(q, name, s);
+    match opened {
+        Opened::Refused { number, status } => answer::refuse(number, status),
+        Opened::Clear { start, len } => {
+            let end = start + len;
+            rule_card(q, &s[start..end])
+        }
+    }
+}
