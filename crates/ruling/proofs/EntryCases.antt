@@ -4,8 +4,8 @@
 use Prim.Native.Nat.{ℕ, _+_, _-_, _^_, _≤_, _<_}
 use native.Mathlib.Omega.{arith}
 use mathlib.Core.Path.{_≡_, refl, sym, ap, _∙_}
-use mathlib.Core.Bool.{Bool, true, false, cond}
-use mathlib.Core.List.{List, []}
+use mathlib.Core.Bool.{Bool, true, false}
+use mathlib.Core.List.{List}
 use lib.ListN.{length, getD, take, drop}
 use mir.Syntax.{w8, w64}
 use mir.Val.{Fits}
@@ -42,9 +42,9 @@ use Rattle.answer.specs.declared.Verdict.{Verdict}
 use Rattle.answer.specs.declared.Verdict.the-variants.{Good, Revoked, Unknown}
 use Rattle.answer.specs.declared.Answer.{Answer}
 use Rattle.ruling.specs.declared.Question.{Question}
-use Rattle.ruling.specs.Signer.{inEntry, strangeIn}
 use Rattle.ruling.specs.StrangePlace.{isPlace, entryKnown}
 use Rattle.ruling.specs.StrangeInLaws.{strange-entry}
+use Rattle.ruling.specs.CheckLaws.{head-got}
 use Rattle.ruling.specs.EntryRuled.{reasonFor, verdictFor, freshRuled, untilRuled, viewRuled, entryRuled, headRuled}
 
 -- ── whether there is a place ──
@@ -153,10 +153,6 @@ entry-seen q s e n o z g =
     let x = entry-extensions s e n g o in
     let i = singleResponse .inside s e n g .1 in
     rw (x .1, strange-entry (e .extensions) (extensions-ok e (singleResponse .sound s e n o g .0)) (omega (arith, x .0)))
-
-head-got : (q : Question) (g : Got Entry) (e : Entry) (n : ℕ) → g ≡ got e n → headRuled q g ≡ entryRuled q e
-unfolding headRuled
-head-got q g e n i = rw i
 
 module _ (q : Question) (s : List ℕ) (w : Look) (x : w ≡ lookOf (singleResponse .dec s)) where
   pub head-wrong : (p : ℕ) → w ≡ look.Wrong p → (a : Answer) → a ≡ refused 10 0 → a ≡ headRuled q (singleResponse .dec s)

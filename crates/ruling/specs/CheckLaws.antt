@@ -1,35 +1,33 @@
 -- The check cut in two says what the table says: the response judged as a whole (2 to 9), then one card
 -- (10 to 16).
--- out-of-range, opened-answer; judged-basic, opened-inside. The definitions are in Opened, CardRuled,
--- EntryRuled and Ruling.
+-- judged-basic, opened-inside; out-of-range, head-got; CardKnown, opened-answer. The definitions are in
+-- Opened, CardRuled, EntryRuled and Ruling.
 -- Assumes nothing.
 use Prim.Native.Nat.{ℕ, _+_, _-_, _^_, _≤_, _<_}
 use native.Mathlib.Omega.{arith}
 use mathlib.Core.Path.{_≡_, refl, sym, ap, _∙_}
-use mathlib.Core.Bool.{Bool, true, false, cond, _&&_, not}
+use mathlib.Core.Bool.{Bool, true, false, cond, _&&_}
 use mathlib.Core.List.{List, [], _∷_, append-nil}
 use mathlib.Core.Option.{Option, none, some}
 use lib.Dec.{eqb, ltb}
-use lib.ListN.{length, take, drop, length-drop}
+use lib.ListN.{length, drop, length-drop}
 use borrow.Author.Tests.{ltb-false}
 use lib.Seq.{length-take-le}
 use Rattle.octets.specs.Octets.{Octets}
 use Rattle.content.specs.Serial.{serialOk}
 use Rattle.codec.specs.Codec.{read, Got, got}
 use Rattle.codec.specs.Many.{forms, All, many}
-use Rattle.codec.specs.Option.{optionEnc, OptionOk}
 use Rattle.layout.specs.Reading.{Status, good, revoked, unknown, Entry, Basic, failed, basic}
-use Rattle.layout.specs.Limits.{HashOk}
-use Rattle.layout.specs.LimitsLaws.{basic-limits, responder-limits, entry-limits}
+use Rattle.layout.specs.LimitsLaws.{responder-limits, entry-limits}
 use Rattle.layout.specs.PartLimits.{option-limits, all-limits, extensions-limits}
-use Rattle.layout.specs.Limits.{ExtensionsOk, EntryOk, BasicOk}
-use Rattle.layout.specs.Format.{extensions, singleResponse, responderId, basicBody}
+use Rattle.layout.specs.Limits.{HashOk, ExtensionsOk, EntryOk, BasicOk}
+use Rattle.layout.specs.Format.{extensions, singleResponse, basicBody}
 use Rattle.layout.specs.Read.{Outcome, reads, otherType, unfit, reading}
 use Rattle.layout.specs.ReadLaws.{fits-64}
 use Rattle.layout.specs.Theorem.{sound}
 use Rattle.words.specs.ExpectLaws.{never}
 use Rattle.extension.specs.Strange.{strangeOf}
-use Rattle.entry.specs.Looks.{standingOf, untilOf, whyOf}
+use Rattle.entry.specs.Looks.{standingOf, untilOf}
 use Rattle.response.specs.Parts.{partsFrom, judgedAs, judgedOf}
 use Rattle.response.specs.PartsLaws.{responder-stands, entries-stand, extensions-stand}
 use Rattle.response.specs.Stands.{Stands}
@@ -45,15 +43,13 @@ use Rattle.answer.specs.Card.{serialIn}
 use Rattle.answer.specs.CardLaws.{field-exactly}
 use Rattle.answer.specs.Verdict.{refused}
 use Rattle.answer.specs.declared.Card.{Card}
-use Rattle.answer.specs.declared.Answer.{Answer}
 use Rattle.matching.specs.Match.{isFor}
-use Rattle.search.specs.Search.{searchOf, foundOf, forCard}
+use Rattle.search.specs.Search.{foundOf, forCard}
 use Rattle.search.specs.SearchLaws.{search-reads}
 use Rattle.search.specs.FoundLaws.{found-none, found-one, found-two}
 use Rattle.search.specs.declared.Found.{Found}
 use Rattle.search.specs.declared.Found.the-variants as found
 use Rattle.ruling.specs.declared.Question.{Question}
-use Rattle.ruling.specs.declared.opened.Opened.{Opened}
 use Rattle.ruling.specs.declared.opened.Opened.the-variants.{Refused, Clear}
 use Rattle.ruling.specs.Question.{inRange}
 use Rattle.ruling.specs.Signer.{isSigner, inResponse, inEntry, strangeIn}
@@ -62,7 +58,7 @@ use Rattle.ruling.specs.SignerInLaws.{signs-form}
 use Rattle.ruling.specs.StrangePlace.{isPlace, responseKnown}
 use Rattle.ruling.specs.StrangeInLaws.{strange-response}
 use Rattle.ruling.specs.Order.{entriesFor, lacksMark, nextIn, missed, tests, firstOf}
-use Rattle.ruling.specs.Ruling.{reasonIn, said, caseOf, answerOf}
+use Rattle.ruling.specs.Ruling.{said, answerOf}
 use Rattle.ruling.specs.AcceptedLaws.{range-exactly}
 use Rattle.ruling.specs.TimesLaws.{missed-13}
 use Rattle.ruling.specs.EntryRuled.{reasonFor, verdictFor, freshRuled, untilRuled, entryRuled, headRuled}
@@ -154,7 +150,7 @@ verdict-said (revoked t none) this end = refl
 verdict-said (revoked t (some r)) this end = refl
 
 -- the entry at the head of a list that is read
-head-got : (q : Question) (g : Got Entry) (e : Entry) (n : ℕ) → g ≡ got e n → headRuled q g ≡ entryRuled q e
+pub head-got : (q : Question) (g : Got Entry) (e : Entry) (n : ℕ) → g ≡ got e n → headRuled q g ≡ entryRuled q e
 unfolding headRuled
 head-got q g e n i = rw i
 

@@ -1,7 +1,7 @@
 -- The answer for the only entry for the card, as the code finds it: its extensions, then its times,
 -- then its status.
 -- reasonFor, verdictFor, freshRuled, untilRuled, viewRuled; entryRuled, headRuled. That this is what
--- the table says from refusal 12 on is in EntryRuledLaws.
+-- the table says from refusal 12 on is in CheckLaws.
 -- Assumes nothing.
 use Prim.Native.Nat.{ℕ}
 use mathlib.Core.Bool.{cond}

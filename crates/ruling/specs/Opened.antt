@@ -1,8 +1,9 @@
 -- The response as a whole, as the code judges it: refusals 2 to 9, else where its entries are.
--- lacks, refusalIn, cutAt, partsOpened, openedBy, openedOf. That this is what the table says is in CheckLaws.
+-- lacks, refusalIn; cutAt, numberOpened, partsOpened, openedBy, openedOf. That this is what the table
+-- says is in CheckLaws.
 -- Assumes nothing.
-use Prim.Native.Nat.{ℕ, _%_}
-use mathlib.Core.Bool.{Bool, false, cond, not}
+use Prim.Native.Nat.{ℕ}
+use mathlib.Core.Bool.{Bool, false, cond}
 use mathlib.Core.List.{List}
 use lib.Dec.{eqb}
 use lib.ListN.{take, drop}

@@ -1,18 +1,18 @@
 -- The octets of a responder id tell the signer as its reading does.
 -- signs-form, signs-read. The definitions are in SignerIn and Signer.
 -- Assumes nothing.
-use Prim.Native.Nat.{ℕ, _+_, _^_, _<_}
+use Prim.Native.Nat.{ℕ, _^_, _<_}
 use native.Mathlib.Omega.{arith}
 use mathlib.Core.Path.{_≡_, refl, sym, ap, _∙_}
-use mathlib.Core.Bool.{Bool, true, false, cond}
-use mathlib.Core.List.{List, [], _∷_, _++_, append-nil}
-use lib.Dec.{ltb, lit<}
-use lib.ListN.{length, take, drop, length-append}
-use lib.Seq.{drop-at, take-all}
+use mathlib.Core.Bool.{Bool, false, cond}
+use mathlib.Core.List.{List, [], _∷_, append-nil}
+use lib.Dec.{ltb}
+use lib.ListN.{length, take, drop}
+use lib.Seq.{take-all}
 use borrow.Author.Tests.{le-ltb}
 use Rattle.octets.specs.Octets.{Octets}
 use Rattle.octets.specs.Same.{sameOf}
-use Rattle.element.specs.Form.{headForm, headSize, formOf}
+use Rattle.element.specs.Form.{headSize, formOf}
 use Rattle.element.specs.Length.{lengthForm}
 use Rattle.element.specs.Header.{headerOf}
 use Rattle.element.specs.declared.Header.the-variants.{Found}
@@ -23,7 +23,7 @@ use Rattle.codec.specs.Tree.{Tree, treeEnc}
 use Rattle.layout.specs.Reading.{Responder, byName, byKey}
 use Rattle.layout.specs.Kinds.{freeSequence, tag-a1, tag-a2}
 use Rattle.layout.specs.Format.{nameId, keyId, responderId}
-use Rattle.layout.specs.Limits.{ResponderOk, KeyOk}
+use Rattle.layout.specs.Limits.{ResponderOk}
 use Rattle.layout.specs.LimitsLaws.{responder-limits}
 use Rattle.words.specs.Spots.{expected}
 use Rattle.words.specs.declared.Spot.the-variants as spot

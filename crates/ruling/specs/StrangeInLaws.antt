@@ -1,6 +1,6 @@
 -- Critical extensions that are not understood, by the octets of extensions and by their reading: the
 -- place that crate extension finds is there exactly where some extension is so.
--- isPlace; strange-response, strange-entry. The definitions are in Signer and extension's Strange.
+-- strange-response, strange-entry. The definitions are in StrangePlace, Signer and extension's Strange.
 -- Assumes nothing.
 use Prim.Native.Nat.{ℕ, _^_, _<_}
 use mathlib.Core.Path.{_≡_, refl, sym, ap, _∙_}
@@ -18,8 +18,6 @@ use Rattle.layout.specs.Format.{extensions}
 use Rattle.extension.specs.Strange.{isStrange, strangeOf}
 use Rattle.extension.specs.Strange as by
 use Rattle.extension.specs.StrangeLaws.{strange-clear, strange-found, strange-absent}
-use Rattle.extension.specs.declared.Strange.{Strange}
-use Rattle.extension.specs.declared.Strange.the-variants.{None, At}
 use Rattle.ruling.specs.Signer.{ocspOid, inResponse, inEntry, strange, strangeIn}
 use Rattle.ruling.specs.StrangePlace.{isPlace, responseKnown, entryKnown}
 

@@ -1,64 +1,47 @@
+-- `ruling::cards::check` meets its contract: the question, the response as a whole, the card.
+-- Assumes nothing.
 use borrow.Author.Needs.{needs, length-unmapped}
 use Rattle.ruling.specs.CheckLaws.{CardKnown}
 use Rattle.ruling.proofs.CheckCases.{card-known, check-range, check-refused, check-end, check-sum, check-clear}
 use Rattle.ruling.proofs.cards.check.Statement.{statement}
 use Rattle.ruling.proofs.cards.check.Tie as tie
-use Rattle.ruling.proofs.cards.check.Reads as reads
-use Rattle.ruling.proofs.cards.check.Lts as lts
-use Rattle.answer.proofs.refuse.Reads as refuse-reads
-use Rattle.ruling.proofs.cards.rule_card.Reads as rule-card-reads
-use Rattle.ruling.proofs.opened.open.Reads as open-reads
-use Rattle.ruling.proofs.ranges.question_fits.Reads as question-fits-reads
 
--- src/cards.rt:34:9
 question-fits-requires : tie.Need-question-fits-requires
 question-fits-requires c κs = search needs
 
--- src/cards.rt:35:9
 refuse-requires : tie.Need-refuse-requires
 refuse-requires c κs = search needs
 
--- src/cards.rt:35:9
 returns : tie.Need-returns
 returns c = search check-range
 
--- src/cards.rt:37:9
 open-requires : tie.Need-open-requires
 open-requires c κs = search needs
 
--- src/cards.rt:39:27
 enum-known-opened : tie.Need-enum-known-opened
 enum-known-opened c = search needs
 
--- src/cards.rt:39:47
 refuse-requires-2 : tie.Need-refuse-requires-2
 refuse-requires-2 c κs = search needs
 
--- src/cards.rt:40:25
 enum-known-opened-2 : tie.Need-enum-known-opened-2
 enum-known-opened-2 c = search needs
 
--- src/cards.rt:41:23
 add-end : tie.Need-add-end
 add-end c = search (check-sum, c .before .before .before .before .before .before .shared-slice-known2 .given)
 
--- src/cards.rt:42:26
 sub-rule-card : tie.Need-sub-rule-card
 sub-rule-card c = search needs
 
--- src/cards.rt:42:26
 part-rule-card-start : tie.Need-part-rule-card-start
 part-rule-card-start c = search needs
 
--- src/cards.rt:42:26
 part-rule-card-end : tie.Need-part-rule-card-end
 part-rule-card-end c = search (check-end, c .before .before .before .before .before .before .shared-slice-known2 .given)
 
--- src/cards.rt:42:13
 rule-card-requires : tie.Need-rule-card-requires
 rule-card-requires c κs = search needs
 
--- src/cards.rt:31:1
 returns-2 : tie.Need-returns-2
 returns-2 c =
     let g = c .before .before .before .before .before .before .before .before .before .good .0 in
@@ -66,7 +49,6 @@ returns-2 c =
     let known : CardKnown card = card-known card (search (length-unmapped, g)) (λ i. search (needs, g)) (search (length-unmapped, g)) (λ i. search (needs, g)) (λ i. search (needs, g)) in
     search (check-refused, known, c .before .before .before .before .before .before .before .shared-slice-known2 .given)
 
--- src/cards.rt:31:1
 returns-3 : tie.Need-returns-3
 returns-3 c =
     let g = c .before .before .before .before .before .before .before .before .before .before .good .0 in

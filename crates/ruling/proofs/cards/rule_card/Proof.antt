@@ -1,66 +1,49 @@
+-- `ruling::cards::rule_card` meets its contract, by what the search finds.
+-- Assumes nothing.
 use borrow.Author.Needs.{needs}
 use Rattle.ruling.proofs.CardCases.{card-none, card-two, card-end, card-sum, card-one}
 use Rattle.ruling.proofs.cards.rule_card.Statement.{statement}
 use Rattle.ruling.proofs.cards.rule_card.Tie as tie
-use Rattle.ruling.proofs.cards.rule_card.Reads as reads
-use Rattle.ruling.proofs.cards.rule_card.Lts as lts
-use Rattle.answer.proofs.refuse.Reads as refuse-reads
-use Rattle.ruling.proofs.entries.rule_entry.Reads as rule-entry-reads
-use Rattle.search.proofs.search.Reads as search-reads
 
--- src/cards.rt:18:9
 search-requires : tie.Need-search-requires
 search-requires c κs = search needs
 
--- src/cards.rt:20:27
 enum-told : tie.Need-enum-told
 enum-told c = search needs
 
--- src/cards.rt:20:27
 refuse-requires : tie.Need-refuse-requires
 refuse-requires c κs = search needs
 
--- src/cards.rt:21:47
 enum-told-2 : tie.Need-enum-told-2
 enum-told-2 c = search needs
 
--- src/cards.rt:21:47
 refuse-requires-2 : tie.Need-refuse-requires-2
 refuse-requires-2 c κs = search needs
 
--- src/cards.rt:22:34
 enum-known-found : tie.Need-enum-known-found
 enum-known-found c = search needs
 
--- src/cards.rt:23:23
 add-end : tie.Need-add-end
 add-end c = search card-sum
 
--- src/cards.rt:24:36
 sub-rule-entry : tie.Need-sub-rule-entry
 sub-rule-entry c = search needs
 
--- src/cards.rt:24:36
 part-rule-entry-start : tie.Need-part-rule-entry-start
 part-rule-entry-start c = search needs
 
--- src/cards.rt:24:36
 part-rule-entry-end : tie.Need-part-rule-entry-end
 part-rule-entry-end c = search card-end
 
--- src/cards.rt:24:13
 rule-entry-requires : tie.Need-rule-entry-requires
 rule-entry-requires c κs = search needs
 
--- src/cards.rt:14:1
 returns : tie.Need-returns
 returns c = search card-none
 
--- src/cards.rt:14:1
 returns-2 : tie.Need-returns-2
 returns-2 c = search card-two
 
--- src/cards.rt:14:1
 returns-3 : tie.Need-returns-3
 returns-3 c = search card-one
 

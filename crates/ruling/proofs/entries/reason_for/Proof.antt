@@ -1,9 +1,9 @@
+-- `ruling::entries::reason_for` meets its contract.
+-- Assumes nothing.
 use borrow.Author.Needs.{needs}
 use Rattle.ruling.proofs.EntryCases.{reason-given, reason-absent}
 use Rattle.ruling.proofs.entries.reason_for.Statement.{statement}
 use Rattle.ruling.proofs.entries.reason_for.Tie as tie
-use Rattle.ruling.proofs.entries.reason_for.Reads as reads
-use Rattle.ruling.proofs.entries.reason_for.Lts as lts
 
 enum-known-why : tie.Need-enum-known-why
 enum-known-why c = search needs

@@ -1,11 +1,9 @@
+-- `ruling::entries::rule_fresh` meets its contract, rule by rule.
+-- Assumes nothing.
 use borrow.Author.Needs.{needs}
 use Rattle.ruling.proofs.EntryCases.{fresh-endless, fresh-reversed, fresh-early, fresh-late, fresh-accepted}
 use Rattle.ruling.proofs.entries.rule_fresh.Statement.{statement}
 use Rattle.ruling.proofs.entries.rule_fresh.Tie as tie
-use Rattle.ruling.proofs.entries.rule_fresh.Reads as reads
-use Rattle.ruling.proofs.entries.rule_fresh.Lts as lts
-use Rattle.answer.proofs.refuse.Reads as refuse-reads
-use Rattle.ruling.proofs.entries.verdict_for.Reads as verdict-for-reads
 
 enum-told : tie.Need-enum-told
 enum-told c = search needs

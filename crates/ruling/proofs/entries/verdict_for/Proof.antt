@@ -1,10 +1,9 @@
+-- `ruling::entries::verdict_for` meets its contract, status by status.
+-- Assumes nothing.
 use borrow.Author.Needs.{needs}
 use Rattle.ruling.proofs.EntryCases.{verdict-good, verdict-unknown, verdict-revoked}
 use Rattle.ruling.proofs.entries.verdict_for.Statement.{statement}
 use Rattle.ruling.proofs.entries.verdict_for.Tie as tie
-use Rattle.ruling.proofs.entries.verdict_for.Reads as reads
-use Rattle.ruling.proofs.entries.verdict_for.Lts as lts
-use Rattle.ruling.proofs.entries.reason_for.Reads as reason-for-reads
 
 enum-told : tie.Need-enum-told
 enum-told c = search needs

@@ -1,52 +1,40 @@
+-- `ruling::opened::open_parts` meets its contract: refused, or not.
+-- Assumes nothing.
 use borrow.Author.Needs.{needs}
 use Rattle.ruling.proofs.OpenCases.{parts-refused, parts-clear}
 use Rattle.ruling.proofs.opened.open_parts.Statement.{statement}
 use Rattle.ruling.proofs.opened.open_parts.Tie as tie
-use Rattle.ruling.proofs.opened.open_parts.Reads as reads
-use Rattle.ruling.proofs.opened.open_parts.Lts as lts
-use Rattle.ruling.proofs.opened.refusal_in.Reads as refusal-in-reads
 
--- src/opened.rt:58:16
 add-last : tie.Need-add-last
 add-last c = search needs
 
--- src/opened.rt:61:15
 add-end : tie.Need-add-end
 add-end c = search needs
 
--- src/opened.rt:62:38
 sub-refusal-in : tie.Need-sub-refusal-in
 sub-refusal-in c = search needs
 
--- src/opened.rt:62:38
 part-refusal-in-start : tie.Need-part-refusal-in-start
 part-refusal-in-start c = search needs
 
--- src/opened.rt:62:38
 part-refusal-in-end : tie.Need-part-refusal-in-end
 part-refusal-in-end c = search needs
 
--- src/opened.rt:62:55
 sub-refusal-in-2 : tie.Need-sub-refusal-in-2
 sub-refusal-in-2 c = search needs
 
--- src/opened.rt:62:55
 part-refusal-in-start-2 : tie.Need-part-refusal-in-start-2
 part-refusal-in-start-2 c = search needs
 
--- src/opened.rt:62:55
 part-refusal-in-end-2 : tie.Need-part-refusal-in-end-2
 part-refusal-in-end-2 c = search needs
 
--- src/opened.rt:62:9
 refusal-in-requires : tie.Need-refusal-in-requires
 refusal-in-requires c κs = search needs
 
--- src/opened.rt:64:9
 returns : tie.Need-returns
 returns c = search (parts-refused, c .if1 .taken)
 
--- src/opened.rt:51:1
 returns-2 : tie.Need-returns-2
 returns-2 c = search parts-clear
 

@@ -1,12 +1,9 @@
+-- `ruling::signs::signs` meets its contract, by the A1 of a Name or the hash of a key.
+-- Assumes nothing.
 use borrow.Author.Needs.{needs}
 use Rattle.ruling.proofs.SignCases.{by-key, name-end, name-sum, by-name}
 use Rattle.ruling.proofs.signs.signs.Statement.{statement}
 use Rattle.ruling.proofs.signs.signs.Tie as tie
-use Rattle.ruling.proofs.signs.signs.Reads as reads
-use Rattle.ruling.proofs.signs.signs.Lts as lts
-use Rattle.octets.proofs.same.Reads as same-reads
-use Rattle.ruling.proofs.signs.signs_by_key.Reads as signs-by-key-reads
-use Rattle.words.proofs.expect.Reads as expect-reads
 
 expect-requires : tie.Need-expect-requires
 expect-requires c κs = search needs

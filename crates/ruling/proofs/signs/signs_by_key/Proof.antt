@@ -1,10 +1,9 @@
+-- `ruling::signs::signs_by_key` meets its contract: too short, or compared.
+-- Assumes nothing.
 use borrow.Author.Needs.{needs}
 use Rattle.ruling.proofs.SignCases.{key-short, key-compared}
 use Rattle.ruling.proofs.signs.signs_by_key.Statement.{statement}
 use Rattle.ruling.proofs.signs.signs_by_key.Tie as tie
-use Rattle.ruling.proofs.signs.signs_by_key.Reads as reads
-use Rattle.ruling.proofs.signs.signs_by_key.Lts as lts
-use Rattle.octets.proofs.same.Reads as same-reads
 
 returns : tie.Need-returns
 returns c = search key-short

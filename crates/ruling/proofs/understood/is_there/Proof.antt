@@ -1,9 +1,9 @@
+-- `ruling::understood::is_there` meets its contract.
+-- Assumes nothing.
 use borrow.Author.Needs.{needs}
 use Rattle.ruling.proofs.EntryCases.{place-none, place-some}
 use Rattle.ruling.proofs.understood.is_there.Statement.{statement}
 use Rattle.ruling.proofs.understood.is_there.Tie as tie
-use Rattle.ruling.proofs.understood.is_there.Reads as reads
-use Rattle.ruling.proofs.understood.is_there.Lts as lts
 
 enum-told : tie.Need-enum-told
 enum-told c = search needs

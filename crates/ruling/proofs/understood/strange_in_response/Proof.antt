@@ -1,12 +1,10 @@
+-- `ruling::understood::strange_in_response` meets its contract, which is that of the search for a place.
+-- Assumes nothing.
 use borrow.Author.Needs.{needs}
 use mathlib.Core.Path.{ap, _∙_}
 use Rattle.ruling.specs.StrangePlace.{isPlace}
 use Rattle.ruling.proofs.understood.strange_in_response.Statement.{statement}
 use Rattle.ruling.proofs.understood.strange_in_response.Tie as tie
-use Rattle.ruling.proofs.understood.strange_in_response.Reads as reads
-use Rattle.ruling.proofs.understood.strange_in_response.Lts as lts
-use Rattle.extension.proofs.strange_place.Reads as strange-place-reads
-use Rattle.ruling.proofs.understood.is_there.Reads as is-there-reads
 
 slice-aggregate-strange-place : tie.Need-slice-aggregate-strange-place
 slice-aggregate-strange-place c = search needs
