@@ -1,0 +1,5 @@
+pub mod Field
+pub mod FieldLaws
+pub mod Output
+pub mod OutputLaws
+pub mod Examples

@@ -1,0 +1,2 @@
+pub mod WriteCases
+pub mod AnswerCases

@@ -1,0 +1,3 @@
+pub mod StepCases
+pub mod Held
+pub mod Made
