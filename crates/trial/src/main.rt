@@ -1,97 +1,49 @@
 // Runs many cases in one go: reads them one after the other from standard input, each an octet of
 // operation, four octets of length and a body, and writes a line for each. tests/README.md says what
 // the cases and their lines are.
+mod papers; // requests and slips
+mod parts; // parts of a response
+mod say; // what is written
+
 use libc::STDIN_FILENO;
-use libc::STDOUT_FILENO;
-use response::Entry;
-use response::Judged;
 
-fn say(text: &[u8]) {
-    io::write_all(STDOUT_FILENO, text);
-}
-
-fn say_number(n: u64) {
-    io::print_decimal(STDOUT_FILENO, n);
-}
-
-// A refusal: its number and its status.
-fn say_refusal(number: u8, status: u8) {
-    say_number(number as u64);
-    say(b" ");
-    say_number(status as u64);
-    say(b"\n");
-}
-
-// A part: 0, where it starts, and how many octets it has.
-fn say_part(start: usize, len: usize) {
-    say(b"0 ");
-    say_number(start as u64);
-    say(b" ");
-    say_number(len as u64);
-    say(b"\n");
-}
-
-// Why a response is refused.
-fn say_why(s: &[u8]) {
-    let why = response::refuse(s);
-    say_refusal(why.number, why.status);
-}
-
-// The signed part: where it starts, and the size of the part that is shown.
-fn say_signed(s: &[u8]) {
-    let judged = response::judge(s);
-    if let Judged::Basic(parts) = judged {
-        let part = response::signed_part(s);
-        let span = parts.signed;
-        say_part(span.start, part.len());
-    } else {
-        say_why(s);
-    }
-}
-
-// The signature, likewise.
-fn say_signature(s: &[u8]) {
-    let judged = response::judge(s);
-    if let Judged::Basic(parts) = judged {
-        let part = response::signature(s);
-        let span = parts.signature;
-        say_part(span.start, part.len());
-    } else {
-        say_why(s);
-    }
-}
-
-// One step of the walk from a place: the first eight octets of the body, then the response.
-fn say_step(body: &[u8]) {
-    let number = octets::number_at(body, 0, 8);
-    if let octets::Number::Is(place) = number {
-        if 8 <= body.len() {
-            let entry = response::entry_at(&body[8..], place as usize);
-            match entry {
-                Entry::At { start, len } => say_part(start, len),
-                Entry::End => say(b"end\n"),
-                Entry::Refused { number, status } => say_refusal(number, status),
-            }
-        }
-    } else {
-        say(b"short\n");
-    }
+// The line of the desk program.
+fn say_desk(body: &[u8]) {
+    let mut line = [0u8; 175];
+    let n = deskcase::line_for(body, &mut line);
+    say::say(&line[..n]);
 }
 
 fn say_case(operation: u8, body: &[u8]) {
+    if operation == 1 {
+        say_desk(body);
+        return;
+    }
     if operation == 2 {
-        say_signed(body);
+        parts::say_signed(body);
         return;
     }
     if operation == 3 {
-        say_signature(body);
+        parts::say_signature(body);
         return;
     }
     if operation == 4 {
-        say_step(body);
+        parts::say_step(body);
         return;
     }
-    say(b"-\n");
+    if operation == 5 {
+        papers::say_request(body);
+        return;
+    }
+    if operation == 6 {
+        papers::say_read(body);
+        return;
+    }
+    if operation == 7 {
+        papers::say_written(body);
+        return;
+    }
+    say::say(b"-\n");
 }
 
 // Reads a body of n octets into the space that is lent, and writes its line; whether it was there.

@@ -1,0 +1,129 @@
+-- What the code knows at each return of the slip's writer and the line's, and the contract there.
+-- slip-buffer, slip-written, slip-none; end-before, end-at, end-inside, end-counted, desk-count, desk-buffer; line-inside,
+-- line-counted, line-count, line-buffer.
+-- Assumes nothing.
+use Prim.Native.Nat.{ℕ, _+_, _-_, _≤_, _<_}
+use native.Mathlib.Nat.{zero-add}
+use native.Mathlib.Omega.{arith}
+use mathlib.Core.Path.{_≡_, refl, sym, ap, ap₂, _∙_}
+use mathlib.Core.Bool.{Bool, true, false, cond}
+use mathlib.Core.List.{List}
+use lib.Dec.{ltb}
+use lib.ListN.{length, getD, take, drop, replicate, length-drop}
+use lib.Seq.{length-take-le, take-all, take-at}
+use borrow.Author.Tests.{le-ltb}
+use mir.Syntax.{w8}
+use mir.Val.{Fits}
+use Rattle.octets.specs.OctetsLaws.{octets-from}
+use Rattle.octets.specs.Buffer.{putIn}
+use Rattle.octets.specs.BufferLaws.{put-in-room, put-in-length}
+use Rattle.answer.specs.declared.Answer.{Answer}
+use Rattle.fields.specs.declared.Output.{Output}
+use Rattle.fields.specs.declared.Output.the-variants.{Octets as Wrote, Refused}
+use Rattle.fields.specs.Output.{outputOf, outputIn}
+use Rattle.slip.specs.Slip.{slipOf, slipRefusal}
+use Rattle.hex.specs.Hex.{hexLine}
+use Rattle.deskcase.specs.Asked.{asked, deskOf}
+use Rattle.deskcase.specs.FitsLaws.{fits-slip}
+use Rattle.deskcase.specs.Line.{questionEnd, lineOf}
+use Rattle.deskcase.specs.LineLaws.{line-is, end-short, end-long, end-least, cut-question, cut-response, desk-most}
+
+-- how many octets are written in a buffer of this size, 0 where there is no room
+abbrev Count : ℕ → ℕ → ℕ
+Count size n = cond (ltb size n) 0 n
+
+-- ---- the slip
+
+-- what a writer answers where nothing is refused but for room
+count-of : (n size k : ℕ) → Wrote n ≡ outputOf 0 size k → n ≡ Count size k
+unfolding outputOf
+count-of n size k e = go (ltb size k) e
+  where
+    go : (t : Bool) → Wrote n ≡ cond t (Refused 18) (Wrote k) → n ≡ cond t 0 k
+    go true e = let z : _≡_ {A = ℕ} 0 1 = cc in absurd (omega arith)
+    go false e = cc
+
+count-none : (m size k : ℕ) → Refused m ≡ outputOf 0 size k → 0 ≡ Count size k
+unfolding outputOf
+count-none m size k e = go (ltb size k) e
+  where
+    go : (t : Bool) → Refused m ≡ cond t (Refused 18) (Wrote k) → 0 ≡ cond t 0 k
+    go true e = refl
+    go false e = let z : _≡_ {A = ℕ} 0 1 = cc in absurd (omega arith)
+
+module _ (q r : List ℕ) (octet : (i : ℕ) → Fits w8 (getD r i 0)) (a : Answer) (e : a ≡ asked q r) where
+  clear : slipRefusal a ≡ 0
+  unfolding slipRefusal
+  clear = rw (e, fits-slip q r (octets-from r (λ i lt. octet i .fits)))
+
+  -- what the buffer is then
+  pub slip-buffer : (out o : List ℕ) → o ≡ outputIn (slipRefusal a) out (slipOf a) → o ≡ putIn out 0 (slipOf (asked q r))
+  unfolding outputIn
+  slip-buffer out o f = f ∙ rw (clear, e)
+
+  module _ (out : List ℕ) (w : Output) (f : w ≡ outputOf (slipRefusal a) (length out) (length (slipOf a))) where
+    same : w ≡ outputOf 0 (length out) (length (slipOf (asked q r)))
+    same = f ∙ ap₂ (λ (k : ℕ) (x : Answer). outputOf k (length out) (length (slipOf x))) clear e
+
+    pub slip-written : (n : ℕ) → w ≡ Wrote n → n ≡ cond (ltb (length out) (length (slipOf (asked q r)))) 0 (length (slipOf (asked q r)))
+    slip-written n i = count-of n (length out) (length (slipOf (asked q r))) (sym i ∙ same)
+
+    pub slip-none : (m : ℕ) → w ≡ Refused m → 0 ≡ cond (ltb (length out) (length (slipOf (asked q r)))) 0 (length (slipOf (asked q r)))
+    slip-none m i = count-none m (length out) (length (slipOf (asked q r))) (sym i ∙ same)
+
+-- ---- the input, cut
+
+pub end-before : (s : List ℕ) → length s < 353 → length s ≡ questionEnd (length s)
+end-before s h = sym (end-short (length s) h)
+
+pub end-at : (s : List ℕ) → 353 ≤ length s → 353 ≡ questionEnd (length s)
+end-at s h = sym (end-long (length s) h)
+
+module _ (s : List ℕ) (end : ℕ) (e : end ≡ questionEnd (length s)) where
+  pub end-inside : end ≤ length s
+  end-inside = omega (arith, end-least s)
+
+  pub end-counted : end ≡ length (take end s)
+  end-counted = sym (length-take-le end s end-inside)
+
+  -- the answer to the two parts is the input's
+  parts : asked (take end s) (take (length s - end) (drop end s)) ≡ deskOf s
+  unfolding deskOf
+  parts =
+      ap₂
+      asked
+      (ap (λ (k : ℕ). take k s) e ∙ cut-question s)
+      (take-all (length s - end) (drop end s) (omega (arith, length-drop end s)) ∙ ap (λ (k : ℕ). drop k s) e ∙ cut-response s)
+
+  pub desk-count : (k n : ℕ)
+      → n ≡ cond (ltb k (length (slipOf (asked (take end s) (take (length s - end) (drop end s)))))) 0 (length (slipOf (asked (take end s) (take (length s - end) (drop end s)))))
+      → n ≡ cond (ltb k (length (slipOf (deskOf s)))) 0 (length (slipOf (deskOf s)))
+  desk-count k n x = x ∙ rw parts
+
+  pub desk-buffer : (out o : List ℕ) → o ≡ putIn out 0 (slipOf (asked (take end s) (take (length s - end) (drop end s)))) → o ≡ putIn out 0 (slipOf (deskOf s))
+  desk-buffer out o x = x ∙ rw parts
+
+-- ---- the line
+
+module _ (s : List ℕ) (n : ℕ) (e : n ≡ cond (ltb 87 (length (slipOf (deskOf s)))) 0 (length (slipOf (deskOf s)))) where
+  size-is : n ≡ length (slipOf (deskOf s))
+  size-is = e ∙ rw (le-ltb 87 (length (slipOf (deskOf s))) (desk-most s))
+
+  module _ (o : List ℕ) (f : o ≡ putIn (replicate 87 0) 0 (slipOf (deskOf s))) where
+    pub line-inside : n ≤ length o
+    line-inside = omega (arith, size-is, desk-most s, ap length f, put-in-length (replicate 87 0) 0 (slipOf (deskOf s)))
+
+    pub line-counted : n ≡ length (take n o)
+    line-counted = sym (length-take-le n o line-inside)
+
+    slip-is : take n o ≡ slipOf (deskOf s)
+    slip-is =
+        ap₂ take size-is (f ∙ put-in-room (replicate 87 0) 0 (slipOf (deskOf s)) (rw (zero-add (length (slipOf (deskOf s)))) (desk-most s)))
+        ∙ take-at (slipOf (deskOf s)) (drop (0 + length (slipOf (deskOf s))) (replicate 87 0)) (length (slipOf (deskOf s))) refl
+
+    pub line-count : (k r : ℕ) → r ≡ cond (ltb k (length (hexLine (take n o)))) 0 (length (hexLine (take n o)))
+        → r ≡ cond (ltb k (length (lineOf s))) 0 (length (lineOf s))
+    line-count k r x = x ∙ rw (slip-is, line-is s)
+
+    pub line-buffer : (out p : List ℕ) → p ≡ putIn out 0 (hexLine (take n o)) → p ≡ putIn out 0 (lineOf s)
+    line-buffer out p x = x ∙ rw (slip-is, line-is s)

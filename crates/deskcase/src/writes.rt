@@ -1,0 +1,24 @@
+// The slip of the answer.
+use crate::asked;
+use fields::Output;
+ghost use mathlib.Core.Path.{_≡_};
+ghost use mathlib.Core.Bool.{cond};
+ghost use lib.Dec.{ltb};
+ghost use lib.ListN.{length};
+ghost use Rattle.octets.specs.Buffer.{putIn};
+ghost use Rattle.slip.specs.Slip.{slipOf};
+ghost use Rattle.deskcase.specs.Asked.{asked};
+
+// Writes the slip of the answer to a question at the start of a buffer: how many octets, or 0 where
+// there is no room for them.
+pub fn slip_for(question: &[u8], response: &[u8], out: &mut [u8]) -> usize
+    ensures { λ r. ⌜ r ≡ cond (ltb (length (now (out .entry))) (length (slipOf (asked (now (question .entry)) (now (response .entry)))))) 0 (length (slipOf (asked (now (question .entry)) (now (response .entry))))) ⌝ }
+    ensures { λ _. ⌜ now (out .exit) ≡ putIn (now (out .entry)) 0 (slipOf (asked (now (question .entry)) (now (response .entry)))) ⌝ }
+{
+    let answer = asked::ask(question, response);
+    let output = slips::write_slip(answer, out);
+    match output {
+        Output::Octets(n) => n,
+        Output::Refused(_) => 0,
+    }
+}

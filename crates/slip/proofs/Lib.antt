@@ -1,0 +1,2 @@
+pub mod KindCases
+pub mod RuleCases

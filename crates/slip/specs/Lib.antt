@@ -1,0 +1,11 @@
+pub mod Numbers
+pub mod NumbersLaws
+pub mod Rules
+pub mod Table
+pub mod TableLaws
+pub mod RulesLaws
+pub mod Slip
+pub mod CardOctetsLaws
+pub mod BodyLaws
+pub mod SlipLaws
+pub mod Examples

@@ -1,0 +1,5 @@
+pub mod BodyCases
+pub mod ReadCases
+pub mod PutCases
+pub mod VerdictCases
+pub mod WriteCases

@@ -1,0 +1,9 @@
+// Slips, written into a lent buffer and read back.
+//
+// No public function here has a requirement: what breaks the slip rules is answered with 17, and a
+// refusal leaves the buffer as it was.
+mod readers; // a slip as an answer
+mod writers; // an answer as a slip
+
+pub use readers::read_slip;
+pub use writers::write_slip;
