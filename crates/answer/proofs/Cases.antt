@@ -1,11 +1,11 @@
 -- What the code knows at each return and in each turn, and what follows there.
--- zero-next, zero-stop, zero-end; inside, counted; field-long, field-serial, field-fill; card-name, card-key,
+-- one-zero, one-other; zero-next, zero-end; inside, counted; field-long, field-serial, field-fill; card-name, card-key,
 -- card-serial, card-size.
 -- Assumes nothing.
-use Prim.Native.Nat.{ℕ, _+_, _-_, _<_, _≤_}
+use Prim.Native.Nat.{ℕ, suc, _+_, _-_, _<_, _≤_}
 use native.Mathlib.Numerals.{add-one}
 use native.Mathlib.Omega.{arith}
-use mathlib.Core.Path.{_≡_, sym, ap, _∙_}
+use mathlib.Core.Path.{_≡_, refl, sym, ap, _∙_}
 use mathlib.Core.Bool.{Bool, true, false, cond, not}
 use mathlib.Core.List.{List}
 use lib.Dec.{eqb}
@@ -17,25 +17,35 @@ use Rattle.content.specs.Serial.{serialOk}
 use Rattle.answer.specs.declared.Card.{Card}
 use Rattle.answer.specs.Card.{allZero, fieldOk, sameHashes, sameCard}
 
--- ---- octets are tested for zeros: the answer is that of the rest
+-- ---- octets are tested for zeros: the answer is that of those before and of the rest
 
-module _ (s : List ℕ) (i : ℕ) (p : allZero s ≡ allZero (drop i s)) where
-  step : i < length s → allZero s ≡ cond (eqb (getD s i 0) 0) (allZero (drop (i + 1) s)) false
+pub one-zero : (z : Bool) (x : ℕ) → x ≡ 0 → z ≡ cond (eqb x 0) z false
+one-zero z x e = sym (rw (eq-eqb x 0 e))
+
+pub one-other : (z : Bool) (x : ℕ) → (x ≡ 0 → ⊥) → false ≡ cond (eqb x 0) z false
+one-other z x e = sym (rw (ne-eqb x 0 e))
+
+one-first : (b z r : Bool) → cond z (cond b r false) false ≡ cond (cond b z false) r false
+one-first true true r = refl
+one-first true false r = refl
+one-first false true r = refl
+one-first false false r = refl
+
+module _ (s : List ℕ) (i : ℕ) (z : Bool) (p : allZero s ≡ cond z (allZero (drop i s)) false) where
+  -- one more octet
+  pub zero-next : i < length s → (w : Bool) → w ≡ cond (eqb (getD s i 0) 0) z false → allZero s ≡ cond w (allZero (drop (i + 1) s)) false
   unfolding allZero
-  step h = p ∙ rw (add-one i, drop-cons s i 0 h)
-
-  -- a zero here
-  pub zero-next : i < length s → getD s i 0 ≡ 0 → allZero s ≡ allZero (drop (i + 1) s)
-  zero-next h e = step h ∙ rw (eq-eqb (getD s i 0) 0 e)
-
-  -- another octet here
-  pub zero-stop : i < length s → (getD s i 0 ≡ 0 → ⊥) → false ≡ allZero s
-  zero-stop h e = sym (step h ∙ rw (ne-eqb (getD s i 0) 0 e))
+  zero-next h w e =
+      p ∙ rw (drop-cons s i 0 h, add-one i, e) (one-first (eqb (getD s i 0) 0) z (allZero (drop (suc i) s)))
 
   -- at the end
-  pub zero-end : length s ≤ i → true ≡ allZero s
+  pub zero-end : length s ≤ i → z ≡ allZero s
   unfolding allZero
-  zero-end h = sym (p ∙ rw (drop-of-length-le s h))
+  zero-end h = sym (p ∙ rw (drop-of-length-le s h) (whole z))
+    where
+      whole : (y : Bool) → cond y true false ≡ y
+      whole true = refl
+      whole false = refl
 
 -- ---- a serial in its field, of which the code knows the length
 

@@ -1,6 +1,8 @@
 // The card: the empty one, one judged, two compared.
 use crate::Card;
 ghost use mathlib.Core.Path.{_≡_};
+ghost use mathlib.Core.Bool.{false, cond};
+ghost use lib.Dec.{eqb};
 ghost use Rattle.answer.specs.Card.{allZero, cardOk, emptyCard, sameCard};
 
 // The card that a refusal hands out.
@@ -15,18 +17,28 @@ pub fn empty_card() -> Card
     }
 }
 
-// Whether all of these octets are zeros, as a fill must be.
+// Whether all octets are zeros after one more, by whether those before it are.
+fn still_zero(zero: bool, octet: u8) -> bool
+    ensures { λ r. ⌜ r ≡ cond (eqb octet 0) zero false ⌝ }
+{
+    if octet == 0 {
+        return zero;
+    }
+    false
+}
+
+// Whether all of these octets are zeros, as a fill must be. The loop looks at all of them: so the
+// compiler takes many at once.
 pub fn all_zero(s: &[u8]) -> bool
     ensures { λ r. ⌜ r ≡ allZero (now (s .entry)) ⌝ }
 {
+    let mut zero = true;
     let mut i = 0;
     while i < s.len() {
-        if s[i] != 0 {
-            return false;
-        }
+        zero = still_zero(zero, s[i]);
         i += 1;
     }
-    true
+    zero
 }
 
 // Whether the card's serial keeps the serial rule and its fill is zeros.

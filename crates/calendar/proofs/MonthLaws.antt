@@ -1,10 +1,11 @@
 -- The code's two tables are the month lengths and their sums.
 -- month-leap, month-common, month-other: the days of a month, as the code's tests leave them;
+-- day-early, day-late: whether a month has a day;
 -- sums, sum-short, months-first, months-leap, months-common: the days before a month.
 -- Assumes nothing.
 use Prim.Native.Nat.{ℕ, zero, suc, _+_, _-_, _≤_, _<_}
 use native.Mathlib.Omega.{arith}
-use mathlib.Core.Path.{_≡_, refl, sym, _∙_}
+use mathlib.Core.Path.{_≡_, refl, sym, ap, _∙_}
 use mathlib.Core.List.{List, [], _∷_}
 use mathlib.Core.Bool.{Bool, true, false, cond, _&&_, and-false}
 use lib.Dec.{leb, eqb}
@@ -20,6 +21,11 @@ lengths-other false k h = refl
 lengths-other true zero h = refl
 lengths-other true (suc zero) h = absurd (h refl)
 lengths-other true (suc (suc k)) h = refl
+
+-- no month has fewer than 28 days
+lengths-long : (leap : Bool) (k : ℕ) → k < 12 → 28 ≤ getD (lengths leap) k 0
+lengths-long true k h = leb-true _ _ (each-at (λ (i : ℕ). leb 28 (getD (lengths true) i 0)) 12 refl k h)
+lengths-long false k h = leb-true _ _ (each-at (λ (i : ℕ). leb 28 (getD (lengths false) i 0)) 12 refl k h)
 
 -- the days before each month, in a common year
 abbrev sums : List ℕ
@@ -46,7 +52,15 @@ module _ (y m : ℕ) where
   unfolding monthLen
   month-common t e f h = (rw (h, sym e ∙ f), omega arith)
 
+  pub day-late : (d l : ℕ) → (l ≡ monthLen y (m - 1)) × (l ≤ 31) → leb d l ≡ leb d (monthLen y (m - 1))
+  day-late d l e = ap (leb d) (e .0)
+
   module _ (pre : (1 ≤ m) × (m ≤ 12)) (d : ℕ) where
+    pub day-early : d ≤ 28 → true ≡ leb d (monthLen y (m - 1))
+    unfolding monthLen
+    day-early h =
+        sym (le-leb d (getD (lengths (leapOf y)) (m - 1) 0) (omega (arith, lengths-long (leapOf y) (m - 1) (omega arith))))
+
     pub month-other : d ≡ getD (lengths false) (m - 1) 0 → (m ≡ 2 → ⊥) → (d ≡ monthLen y (m - 1)) × (d ≤ 31)
     unfolding monthLen
     month-other s h =

@@ -1,10 +1,10 @@
 -- GeneralizedTime of 15 octets, YYYYMMDDHHMMSSZ, and the seconds since 1970 (document 01, "Times").
--- Moment, isReal, secondsOf; reading: isDigit, pairOf, written, clockOf, pairAt, timeOf; writing: two, formOf, momentOf, timeForm.
+-- Moment, isReal, secondsOf; reading: isDigit, pairOf, written, clockOf, pairAt, timeOf, isTime; writing: two, formOf, momentOf, timeForm.
 -- That reading and writing undo each other is in TimeLaws.
 -- Assumes nothing.
 use Prim.Native.Nat.{ℕ, _+_, _-_, _*_, _/_, _%_}
 use mathlib.Core.List.{List, [], _∷_, _++_}
-use mathlib.Core.Bool.{Bool, cond, _&&_}
+use mathlib.Core.Bool.{Bool, true, false, cond, _&&_}
 use lib.Dec.{ltb, leb, eqb}
 use lib.ListN.{length, getD}
 use Rattle.calendar.specs.Split.{find}
@@ -61,6 +61,11 @@ timeOf s =
     cond (eqb (length s) 15 && eqb (getD s 14 0) 90)
     (clockOf (pairAt s 0) (pairAt s 2) (pairAt s 4) (pairAt s 6) (pairAt s 8) (pairAt s 10) (pairAt s 12))
     No
+
+-- whether a time was read
+unfoldable pub isTime : Time → Bool
+isTime (At n) = true
+isTime No = false
 
 -- two decimal digits
 abbrev pub two : ℕ → List ℕ

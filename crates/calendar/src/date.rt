@@ -1,6 +1,7 @@
 // Days of the Gregorian calendar.
 ghost use mathlib.Core.Path.{_≡_};
 ghost use Prim.Native.Nat.{_-_, _*_, _≤_};
+ghost use lib.Dec.{leb};
 ghost use Rattle.calendar.specs.Split.{before};
 ghost use Rattle.calendar.specs.Date.{leapOf, yearLen, monthLen};
 
@@ -43,6 +44,17 @@ pub(crate) fn month_len(y: u64, m: u64) -> u64
     }
     let i = (m - 1) as usize;
     wide(LENGTHS[i])
+}
+
+// Whether month m of year y has a day d. The first 28 days are in every month.
+pub(crate) fn day_fits(y: u64, m: u64, d: u64) -> bool
+    requires { ⌜ (1 ≤ m) × (m ≤ 12) ⌝ }
+    ensures { λ r. ⌜ r ≡ leb d (monthLen y (m - 1)) ⌝ }
+{
+    if d <= 28 {
+        return true;
+    }
+    d <= month_len(y, m)
 }
 
 // The days of year y before month m.

@@ -6,7 +6,7 @@ ghost use Rattle.calendar.specs.Time.{pairOf, clockOf, timeOf};
 
 // The number that two decimal digits write, or 100 where one of them is no digit. A digit's octet is
 // 48 more than the digit, so the sum has 11 times 48 too much.
-fn pair(a: u8, b: u8) -> u64
+pub(crate) fn pair(a: u8, b: u8) -> u64
     ensures { λ r. ⌜ r ≡ pairOf a b ⌝ }
 {
     if a < 48 {

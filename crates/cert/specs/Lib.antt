@@ -1,3 +1,4 @@
 pub mod Judged
 pub mod SeqViews
 pub mod SeqCases
+pub mod Usual

@@ -1,9 +1,9 @@
 -- The cases of a reader that judges a part by its parts. The premises are what code has learned, as it
 -- left it: a callee's answer, which case it is, and the part that was lent further. The conclusions are
 -- the contract at a return, that a part is there, and that a sum fits.
--- tagged-*: by what `expect` answered; field-*, spot-*, string-*, stamp-*: an element and then a whole
--- list, by the element's answer; filled-*, maybe-none, optional-none: an element that fills its holder,
--- or nothing; option-*, choice-*: by the first octet; named, named-element.
+-- tagged-*: by what `expect` answered; field-*, spot-*, string-*: an element and then a whole list, by
+-- the element's answer; filled-*, maybe-none, optional-none: an element that fills its holder, or
+-- nothing; option-*, choice-*: by the first octet; named, named-element.
 -- The equations behind them are in SeqViews.
 -- Assumes nothing.
 use Prim.Native.Nat.{ℕ, _+_, _-_, _^_, _≤_, _<_}
@@ -31,14 +31,12 @@ use Rattle.codec.specs.declared.Step.the-variants.{Taken, Bad}
 use Rattle.codec.specs.declared.Fit.{Fit}
 use Rattle.codec.specs.declared.Fit.the-variants as fit
 use Rattle.layout.specs.Kinds.{string, optional}
-use Rattle.words.specs.Spots.{expected, spotOf, stampOf}
+use Rattle.words.specs.Spots.{expected, spotOf}
 use Rattle.words.specs.ExpectLaws as expect
 use Rattle.words.specs.Last as last
 use Rattle.words.specs.SpotLaws as laws
 use Rattle.words.specs.declared.Spot.{Spot}
 use Rattle.words.specs.declared.Spot.the-variants as spot
-use Rattle.words.specs.declared.Stamp.{Stamp}
-use Rattle.words.specs.declared.Stamp.the-variants as stamp
 use Rattle.cert.specs.Judged.{filledBy, closedBy, afterBy}
 use Rattle.cert.specs.SeqViews as views
 
@@ -108,22 +106,6 @@ module _ (test : List ℕ → Bool) (s : List ℕ) (x : Spot) (q : x ≡ spotOf 
 
   pub string-sum : (b l : ℕ) → x ≡ spot.At b l → length s < 2 ^ 64 → Fits w64 (b + l)
   string-sum = spot-sum (string test) (last.last-string test) s x q
-
--- by the time that it says
-module _ (e : Element ℕ) where
-  pub stamp-after : {B : Type 0} (w : Whole B) (s : List ℕ) (x : Stamp) → x ≡ stampOf (e .dec s)
-      → (v n : ℕ) → x ≡ stamp.Read v n → (y : Fit) → y ≡ fitOf (w .dec (take (length s - n) (drop n s)))
-      → (r : Fit) → r ≡ afterBy n (length s) y → r ≡ fitOf (fieldDec (e .dec) (w .dec) s)
-  unfolding stepOf
-  stamp-after w s x q v n f = after-is e w s n (rw (laws.stamp-read e s v n (sym q ∙ f) .0))
-
-  module _ (s : List ℕ) (x : Stamp) (q : x ≡ stampOf (e .dec s)) where
-    pub stamp-wrong : {B : Type 0} (d : List ℕ → Read B) (p : ℕ) → x ≡ stamp.Wrong p → fit.Breaks p ≡ fitOf (fieldDec (e .dec) d s)
-    unfolding stepOf
-    stamp-wrong d p f = sym (views.fit-field-wrong e d s p (rw (laws.stamp-wrong e s p (sym q ∙ f) .0)))
-
-    pub stamp-end : (v n : ℕ) → x ≡ stamp.Read v n → n ≤ length s
-    stamp-end v n f = laws.stamp-read e s v n (sym q ∙ f) .2
 
 -- ── an element that fills its holder ──
 module _ {A : Type 0} (e : Element A) (s : List ℕ) (x : Step) (q : x ≡ stepOf (e .dec s)) (r : Fit) (k : r ≡ filledBy (length s) x) where

@@ -8,6 +8,7 @@ ghost use Rattle.codec.specs.Maybe.{maybe};
 ghost use Rattle.codec.specs.Views.{stepOf, fitOf};
 ghost use Rattle.layout.specs.Kinds.{free};
 ghost use Rattle.layout.specs.Format.{algorithmBody, algorithmIdentifier};
+ghost use Rattle.cert.specs.Usual.{startsUsual};
 
 // Nothing, or one free element and nothing more.
 fn parameters(s: &[u8]) -> Fit
@@ -35,8 +36,8 @@ fn algorithm_body(s: &[u8]) -> Fit
     }
 }
 
-// AlgorithmIdentifier ::= SEQUENCE { algorithm, parameters OPTIONAL }
-pub fn read_algorithm(s: &[u8]) -> Step
+// Any algorithm identifier, by its header and its content.
+fn any_algorithm(s: &[u8]) -> Step
     ensures { λ r. ⌜ r ≡ stepOf (algorithmIdentifier .dec (now (s .entry))) ⌝ }
 {
     let spot = words::expect(s, 0x30);
@@ -48,4 +49,24 @@ pub fn read_algorithm(s: &[u8]) -> Step
             judged::closed(start, end, body)
         }
     }
+}
+
+// Whether s starts with SHA-1 and parameters 05 00, as nearly every CertID does.
+fn is_usual(s: &[u8]) -> bool
+    ensures { λ r. ⌜ r ≡ startsUsual (now (s .entry)) ⌝ }
+{
+    if s.len() < 11 {
+        return false;
+    }
+    octets::same(&s[0..11], b"\x30\x09\x06\x05\x2b\x0e\x03\x02\x1a\x05\x00")
+}
+
+// AlgorithmIdentifier ::= SEQUENCE { algorithm, parameters OPTIONAL }
+pub fn read_algorithm(s: &[u8]) -> Step
+    ensures { λ r. ⌜ r ≡ stepOf (algorithmIdentifier .dec (now (s .entry))) ⌝ }
+{
+    if is_usual(s) {
+        return Step::Taken(11);
+    }
+    any_algorithm(s)
 }

@@ -3,7 +3,6 @@ use crate::judged;
 use codec::Fit;
 use codec::Step;
 use words::Spot;
-use words::Stamp;
 ghost use mathlib.Core.Path.{_≡_};
 ghost use Rattle.codec.specs.Sequence.{only};
 ghost use Rattle.codec.specs.Views.{stepOf, fitOf};
@@ -49,10 +48,10 @@ fn reason_maybe(s: &[u8]) -> Fit
 fn revoked_body(s: &[u8]) -> Fit
     ensures { λ r. ⌜ r ≡ fitOf (revokedBody .dec (now (s .entry))) ⌝ }
 {
-    let time = words::read_time(s);
+    let time = words::judge_time(s);
     match time {
-        Stamp::Wrong(p) => Fit::Breaks(p),
-        Stamp::Read { next, .. } => {
+        Step::Bad(p) => Fit::Breaks(p),
+        Step::Taken(next) => {
             let rest = reason_maybe(&s[next..]);
             judged::after(next, s.len(), rest)
         }

@@ -1,3 +1,4 @@
 pub mod TagCases
 pub mod HeadCases
+pub mod LengthCases
 pub mod WriteCases

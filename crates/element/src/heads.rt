@@ -5,6 +5,7 @@ use crate::tags;
 ghost use mathlib.Core.Path.{_≡_};
 ghost use Prim.Native.Nat.{_≤_};
 ghost use lib.ListN.{length, getD};
+ghost use Rattle.octets.specs.Number.{numberAt};
 ghost use Rattle.element.specs.Header.{insideOf, longOf, headerOf};
 
 // The element ends inside the size octets that hold it.
@@ -19,6 +20,24 @@ fn inside(size: usize, tag: u8, start: usize, len: usize) -> Header
     }
 }
 
+// The number of k octets after the first two, without a loop where there are one or two of them.
+fn length_in(s: &[u8], k: usize) -> octets::Number
+    ensures { λ r. ⌜ r ≡ numberAt (now (s .entry)) 2 k ⌝ }
+{
+    if s.len() < 4 {
+        return octets::number_at(s, 2, k);
+    }
+    if k == 2 {
+        let n = s[2] as u64 * 256 + s[3] as u64;
+        return octets::Number::Is(n);
+    }
+    if k == 1 {
+        let n = s[2] as u64;
+        return octets::Number::Is(n);
+    }
+    octets::number_at(s, 2, k)
+}
+
 // A length of k more octets.
 fn long_header(s: &[u8], tag: u8, k: usize) -> Header
     requires { ⌜ k ≤ 8 ⌝ }
@@ -28,7 +47,7 @@ fn long_header(s: &[u8], tag: u8, k: usize) -> Header
     if s.len() < start {
         return Header::Refused(s.len());
     }
-    let octets::Number::Is(n) = octets::number_at(s, 2, k) else {
+    let octets::Number::Is(n) = length_in(s, k) else {
         return Header::Refused(0);
     };
     if lengths::is_shortest(k, n) {

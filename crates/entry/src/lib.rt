@@ -6,6 +6,7 @@
 mod entries; // up to sixty-four entries
 mod ids; // where a CertID is
 mod looks; // the values of an entry
+mod nexts; // nextUpdate, judged
 mod singles; // one entry, judged
 mod standings; // the values of a status
 

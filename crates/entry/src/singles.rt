@@ -1,4 +1,5 @@
 // One entry.
+use crate::nexts;
 use codec::Fit;
 use codec::Step;
 use words::Spot;
@@ -52,10 +53,10 @@ fn next_and_more(s: &[u8]) -> Fit
     ensures { λ r. ⌜ r ≡ fitOf (nextOn .dec (now (s .entry))) ⌝ }
 {
     if cert::starts_with(s, 0xa0) {
-        let until = read_next(s);
+        let until = nexts::judge_next(s);
         match until {
-            Stamp::Wrong(p) => Fit::Breaks(p),
-            Stamp::Read { next, .. } => {
+            Step::Bad(p) => Fit::Breaks(p),
+            Step::Taken(next) => {
                 let rest = extensions_maybe(&s[next..]);
                 cert::after(next, s.len(), rest)
             }
@@ -69,10 +70,10 @@ fn next_and_more(s: &[u8]) -> Fit
 fn this_and_more(s: &[u8]) -> Fit
     ensures { λ r. ⌜ r ≡ fitOf (thisOn .dec (now (s .entry))) ⌝ }
 {
-    let this = words::read_time(s);
+    let this = words::judge_time(s);
     match this {
-        Stamp::Wrong(p) => Fit::Breaks(p),
-        Stamp::Read { next, .. } => {
+        Step::Bad(p) => Fit::Breaks(p),
+        Step::Taken(next) => {
             let rest = next_and_more(&s[next..]);
             cert::after(next, s.len(), rest)
         }

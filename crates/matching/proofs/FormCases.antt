@@ -1,26 +1,25 @@
 -- The cases of the functions that compare a CertID's octets: what each return has learned of them.
 -- Assumes nothing.
-use Prim.Native.Nat.{ℕ, _+_, _-_, _≤_, _<_, min}
-use native.Mathlib.Nat.{min-le-right, min-eq-left, min-eq-right}
+use Prim.Native.Nat.{ℕ, _+_, _-_, _<_}
 use native.Mathlib.Omega.{arith}
 use mathlib.Core.Path.{_≡_, refl, sym, ap, _∙_}
-use mathlib.Core.Bool.{Bool, true, false, not, cond, _&&_, and-true, and-false, or-false}
+use mathlib.Core.Bool.{Bool, true, false, not, cond, _&&_, and-true, and-false}
 use mathlib.Core.List.{List, [], _∷_, _++_}
-use lib.Dec.{eqb, leb}
+use lib.Dec.{eqb}
 use lib.ListN.{length, getD, take, drop, length-append, length-drop}
-use lib.Seq.{length-take-le, take-all, drop-drop}
-use borrow.Author.Tests.{leb-true, leb-false, eq-eqb, ne-eqb, not-true, not-false}
+use lib.Seq.{take-all, drop-drop}
+use borrow.Author.Tests.{eq-eqb, ne-eqb, not-true, not-false}
 use Rattle.octets.specs.Same.{sameOf}
 use Rattle.octets.specs.SameLaws.{same-short}
 use Rattle.element.specs.Form.{formOf}
 use Rattle.element.specs.LengthLaws.{length-short}
 use Rattle.element.specs.HeaderFound.{first-two}
-use Rattle.matching.specs.CertForm.{cardForm, plainHead, nullHead, sha1Heads, isCardOctets}
+use Rattle.matching.specs.CertForm.{cardForm}
 
 -- ---- an element of fewer than 128 octets
 
 module _ (s : List ℕ) (t : ℕ) (c : List ℕ) (h : length c < 128) where
-  short-form : formOf t c ≡ t ∷ length c ∷ c
+  pub short-form : formOf t c ≡ t ∷ length c ∷ c
   unfolding formOf
   short-form = rw (length-short (length c) h)
 
@@ -45,7 +44,7 @@ module _ (s : List ℕ) (t : ℕ) (c : List ℕ) (h : length c < 128) where
           ∙ ap (λ (x : List ℕ). sameOf x c) (take-all (length s - 2) (drop 2 s) (simp length-drop (omega arith)))
           ∙ sym (by-octets ∙ rw (eq-eqb (getD s 0 0) t e, eq-eqb (getD s 1 0) (length c) i))
 
-short-length : (t : ℕ) (c : List ℕ) → length c < 128 → length (formOf t c) ≡ 2 + length c
+pub short-length : (t : ℕ) (c : List ℕ) → length c < 128 → length (formOf t c) ≡ 2 + length c
 short-length t c h = rw (short-form [] t c h) (omega arith)
 
 -- ---- a head and three elements
@@ -125,38 +124,3 @@ module _ (part head name key serial : List ℕ) (p : length name < 128) (q : len
         (h : y ≡ sameOf (take (serialAt - keyAt) (drop keyAt part)) (formOf 0x04 key)) where
       pub head-same : (w : Bool) → w ≡ sameOf (take (length head - 0) (drop 0 part)) head → w ≡ whole
       head-same w e = sym (by-parts ∙ simp (← e, ← f, ← g, ← h, not-false z s, not-false x n, not-false y k, and-true))
-
--- ---- one of two heads
-
-pub twenty-short : (h : List ℕ) → length h ≡ 20 → length h < 128
-twenty-short h e = omega arith
-
-module _ (field : List ℕ) (size n : ℕ) (l : length field ≡ 20) (q : n ≡ min size 20) where
-  pub size-inside : n ≤ length field
-  size-inside = omega (arith, min-le-right size 20)
-
-  pub size-taken : n ≡ length (take n field)
-  size-taken = sym (length-take-le n field size-inside)
-
-  pub size-short : length (take n field) < 128
-  size-short = omega (arith, size-taken, min-le-right size 20)
-
-  -- the serial is the octets of the field that the size says
-  take-size : take n field ≡ take size field
-  take-size = go (leb size 20) refl
-    where
-      go : (b : Bool) → leb size 20 ≡ b → take n field ≡ take size field
-      go true e = ap (λ (k : ℕ). take k field) (q ∙ min-eq-left (leb-true size 20 e))
-      go false e =
-          let g = leb-false size 20 e in
-          take-all n field (omega (arith, min-eq-right {n = 20} {m = size} (omega arith))) ∙ sym (take-all size field (omega arith))
-
-  module _ (part name key : List ℕ) (r : Bool) (e : r ≡ sameOf part (cardForm plainHead name key (take n field))) where
-    pub plain-same : r ≡ true → true ≡ isCardOctets sha1Heads name key (take size field) part
-    unfolding isCardOctets
-    plain-same t = sym (rw (← take-size, ← e, t))
-
-    pub null-same : r ≡ false → (w : Bool) → w ≡ sameOf part (cardForm nullHead name key (take n field))
-        → w ≡ isCardOctets sha1Heads name key (take size field) part
-    unfolding isCardOctets
-    null-same t w i = sym (simp (← take-size, ← e, t, ← i, or-false))

@@ -1,1 +1,2 @@
 pub mod FormCases
+pub mod FieldCases

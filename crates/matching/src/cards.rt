@@ -5,7 +5,7 @@ ghost use Prim.Native.Nat.{_<_, min};
 ghost use lib.ListN.{length};
 ghost use Rattle.octets.specs.Same.{sameOf};
 ghost use Rattle.element.specs.Form.{formOf};
-ghost use Rattle.matching.specs.CertForm.{cardForm, isCard};
+ghost use Rattle.matching.specs.CertForm.{lastOf, cardForm, isFields, isCard};
 
 // Whether these octets are an element with this tag, and this content of fewer than 128 octets.
 fn is_element(s: &[u8], tag: u8, content: &[u8]) -> bool
@@ -23,6 +23,17 @@ fn is_element(s: &[u8], tag: u8, content: &[u8]) -> bool
         return false;
     }
     octets::same(&s[2..], content)
+}
+
+// The last octet, 0 where there is none.
+fn last(s: &[u8]) -> u8
+    ensures { λ r. ⌜ r ≡ lastOf (now (s .entry)) ⌝ }
+{
+    if s.len() == 0 {
+        return 0;
+    }
+    let at = s.len() - 1;
+    s[at]
 }
 
 // Whether these octets are an algorithm identifier, then both hashes and the serial. The length comes
@@ -50,8 +61,34 @@ fn has_form(part: &[u8], head: &[u8], name: &[u8], key: &[u8], serial: &[u8]) ->
     octets::same(&part[0..name_at], head)
 }
 
+// Whether these octets are the content of a CertID with these fields: SHA-1 without parameters or with
+// 05 00, both hashes and the serial. Fields of more than 127 octets are nobody's. The serial's last octet
+// comes first: in it the cards of one issuer differ most.
+pub fn is_for(part: &[u8], name: &[u8], key: &[u8], serial: &[u8]) -> bool
+    ensures { λ r. ⌜ r ≡ isFields (now (name .entry)) (now (key .entry)) (now (serial .entry)) (now (part .entry)) ⌝ }
+{
+    if 127 < name.len() {
+        return false;
+    }
+    if 127 < key.len() {
+        return false;
+    }
+    if 127 < serial.len() {
+        return false;
+    }
+    if last(part) != last(serial) {
+        return false;
+    }
+    let plain = b"\x30\x07\x06\x05\x2b\x0e\x03\x02\x1a";
+    if has_form(part, plain, name, key, serial) {
+        return true;
+    }
+    let null = b"\x30\x09\x06\x05\x2b\x0e\x03\x02\x1a\x05\x00";
+    has_form(part, null, name, key, serial)
+}
+
 // How many octets of a field of twenty are the serial's.
-fn serial_size(size: usize) -> usize
+pub fn serial_size(size: usize) -> usize
     ensures { λ r. ⌜ r ≡ min size 20 ⌝ }
 {
     if size < 20 {
@@ -60,8 +97,7 @@ fn serial_size(size: usize) -> usize
     20
 }
 
-// Whether these octets are the content of a CertID for the card: SHA-1 without parameters or with
-// 05 00, both hashes and the serial.
+// Whether these octets are the content of a CertID for the card.
 pub fn is_card(part: &[u8], card: Card) -> bool
     ensures { λ r. ⌜ r ≡ isCard card (now (part .entry)) ⌝ }
 {
@@ -70,10 +106,5 @@ pub fn is_card(part: &[u8], card: Card) -> bool
     let field = card.serial;
     let size = serial_size(card.size);
     let serial = &field[..size];
-    let plain = b"\x30\x07\x06\x05\x2b\x0e\x03\x02\x1a";
-    if has_form(part, plain, &name, &key, serial) {
-        return true;
-    }
-    let null = b"\x30\x09\x06\x05\x2b\x0e\x03\x02\x1a\x05\x00";
-    has_form(part, null, &name, &key, serial)
+    is_for(part, &name, &key, serial)
 }

@@ -2,7 +2,9 @@
 // serial alone.
 //
 // DER has one form, so the octets of a CertID's content are compared with those that the card's own
-// fields have. The public function has no requirement.
+// fields have. No public function has a requirement.
 mod cards; // a CertID's octets compared with a card's
 
 pub use cards::is_card;
+pub use cards::is_for;
+pub use cards::serial_size;

@@ -64,12 +64,12 @@ module _ (card : Card) (out : List ℕ) (r : Bool) (q : r ≡ cardOk card) where
       long = request-length card n k s fits
 
       -- there is no room
-      module _ (m : ℕ) (l : length out < m) (h : m ≤ 67 + card .size) where
+      module _ (l : length out < 67 + card .size) where
         pub short-answer : Refused 18 ≡ outputOf (requestRefusal card) (length out) (length (requestOf card))
-        short-answer = rw (fits, long) (sym (output-short (length out) (67 + card .size) (omega arith)))
+        short-answer = rw (fits, long) (sym (output-short (length out) (67 + card .size) l))
 
         pub short-kept : out ≡ outputIn (requestRefusal card) out (requestOf card)
-        short-kept = rw fits (sym (kept-short out (requestOf card) (rw long (omega arith))))
+        short-kept = rw fits (sym (kept-short out (requestOf card) (rw long l)))
 
       -- there is room
       pub written-answer : 67 + card .size ≤ length out → Octets (67 + card .size) ≡ outputOf (requestRefusal card) (length out) (length (requestOf card))

@@ -20,11 +20,7 @@ use Rattle.codec.specs.declared.Step.the-variants.{Taken, Bad}
 use Rattle.layout.specs.Reading.{Entry, Extension}
 use Rattle.layout.specs.Kinds.{time}
 use Rattle.layout.specs.Format.{responderId, signedBody}
-use Rattle.words.specs.Spots.{stampOf}
 use Rattle.words.specs.ExpectLaws.{never}
-use Rattle.words.specs.SpotLaws.{stamp-read, stamp-wrong}
-use Rattle.words.specs.declared.Stamp.{Stamp}
-use Rattle.words.specs.declared.Stamp.the-variants as stamp
 use Rattle.entry.specs.Tails.{extensionsOn}
 use Rattle.response.specs.Views.{responsesOn, producedOn, listedOf, producedOf, insideOf, entriesPlace, entriesLength}
 use Rattle.response.specs.declared.signed.Listed.{Listed}
@@ -44,14 +40,14 @@ unfolding listedOf
 listed-read (broke j) b l k e = never (cc)
 listed-read (read y) b l k e = (y, refl, cc, cc, cc)
 
-module _ (s : List ℕ) (x : Stamp) (q : x ≡ stampOf (time .dec s)) where
-  pub produced-wrong : (p : ℕ) → x ≡ stamp.Wrong p → listed.Broken p ≡ producedOf (producedOn .dec s)
+module _ (s : List ℕ) (x : Step) (q : x ≡ stepOf (time .dec s)) where
+  pub produced-wrong : (p : ℕ) → x ≡ Bad p → listed.Broken p ≡ producedOf (producedOn .dec s)
   unfolding producedOf producedOn fieldDec
-  produced-wrong p f = rw (stamp-wrong time s p (sym q ∙ f) .0)
+  produced-wrong p f = rw (step-bad time s p (sym q ∙ f) .0)
 
-  module _ (v n : ℕ) (f : x ≡ stamp.Read v n) where
+  module _ (n : ℕ) (f : x ≡ Taken n) where
     pub produced-end : n ≤ length s
-    produced-end = stamp-read time s v n (sym q ∙ f) .2
+    produced-end = step-taken time s n (sym q ∙ f) .3
 
     module _ (y : Listed) (c : y ≡ listedOf (responsesOn .dec (take (length s - n) (drop n s)))) where
       listed-is : listedOf (responsesOn .dec (drop n s)) ≡ y
@@ -62,7 +58,7 @@ module _ (s : List ℕ) (x : Stamp) (q : x ≡ stampOf (time .dec s)) where
 
       pub listed-broken : (p : ℕ) → y ≡ listed.Broken p → listed.Broken (n + p) ≡ producedOf (producedOn .dec s)
       unfolding producedOf producedOn fieldDec
-      listed-broken p g = rw (stamp-read time s v n (sym q ∙ f) .0, listed-broke (responsesOn .dec (drop n s)) p (listed-is ∙ g))
+      listed-broken p g = rw (step-taken time s n (sym q ∙ f) .1, listed-broke (responsesOn .dec (drop n s)) p (listed-is ∙ g))
 
       module _ (w : Known s) (b l k : ℕ) (g : y ≡ listed.Holds b l k) where
         pub listed-sum : length s < 2 ^ 64 → Fits w64 (n + b)
@@ -76,9 +72,9 @@ module _ (s : List ℕ) (x : Stamp) (q : x ≡ stampOf (time .dec s)) where
         unfolding producedOf producedOn fieldDec
         listed-found =
             let (t, e, i, j, h) = listed-read (responsesOn .dec (drop n s)) b l k (listed-is ∙ g) in
-            let d = stamp-read time s v n (sym q ∙ f) in
-            let size = got-size time s v n (known-octets s w) (d .0) in
-            rw (d .0, e, size, i, j, h)
+            let d = step-taken time s n (sym q ∙ f) in
+            let size = got-size time s (d .0) n (known-octets s w) (d .1) in
+            rw (d .1, e, size, i, j, h)
 
 -- ── the responder id, then the rest ──
 produced-broke : (o : Read (ℕ × (List Entry × Option (List Extension)))) (p : ℕ) → producedOf o ≡ listed.Broken p → o ≡ broke p

@@ -3,7 +3,6 @@ use codec::Fit;
 use codec::Step;
 use entry::Count;
 use words::Spot;
-use words::Stamp;
 ghost use mathlib.Core.Path.{_≡_};
 ghost use Rattle.codec.specs.Views.{fitOf};
 ghost use Rattle.layout.specs.Format.{signedBody};
@@ -81,10 +80,10 @@ fn entries_and_more(s: &[u8]) -> Listed
 fn produced_and_more(s: &[u8]) -> Listed
     ensures { λ r. ⌜ r ≡ producedOf (producedOn .dec (now (s .entry))) ⌝ }
 {
-    let produced = words::read_time(s);
+    let produced = words::judge_time(s);
     match produced {
-        Stamp::Wrong(p) => Listed::Broken(p),
-        Stamp::Read { next, .. } => {
+        Step::Bad(p) => Listed::Broken(p),
+        Step::Taken(next) => {
             let rest = entries_and_more(&s[next..]);
             match rest {
                 Listed::Broken(p) => {

@@ -1,2 +1,4 @@
 pub mod FoundCases
+pub mod HereCases
+pub mod LentCases
 pub mod SearchTurns

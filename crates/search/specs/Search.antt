@@ -1,6 +1,7 @@
 -- Which entries of a response are for a card (document 01, "Response layout"): by the headers of the
 -- octets, as the search goes; and by the entries that they read as. It leaves off at the second.
--- isAt, isHere, noted, isTwo, onHeader, searchFrom, searchOf; foundFrom, foundOf, forCard.
+-- isAt, isHere, noted, isTwo, onHeader, searchFrom, searchOf; cardWith, beginsWith, seenOf; foundFrom,
+-- foundOf, forCard.
 -- That the two agree is in SearchLaws. Ordinals count from 0.
 -- Assumes nothing.
 use Prim.Native.Nat.{ℕ, zero, suc, _+_}
@@ -12,6 +13,7 @@ use Rattle.element.specs.declared.Header.{Header}
 use Rattle.element.specs.declared.Header.the-variants as header
 use Rattle.layout.specs.Reading.{Entry}
 use Rattle.layout.specs.Format.{singleResponse}
+use Rattle.words.specs.Spots.{expected}
 use Rattle.words.specs.declared.Spot.{Spot}
 use Rattle.words.specs.declared.Spot.the-variants.{At, Wrong}
 use Rattle.entry.specs.Ids.{certSpot}
@@ -20,6 +22,8 @@ use Rattle.matching.specs.Match.{isFor}
 use Rattle.matching.specs.CertForm.{isCard}
 use Rattle.search.specs.declared.Found.{Found}
 use Rattle.search.specs.declared.Found.the-variants.{None, One, Two}
+use Rattle.search.specs.declared.Seen.{Seen}
+use Rattle.search.specs.declared.Seen.the-variants.{End, Next}
 
 -- the octets where a CertID's content is are the card's
 unfoldable pub isAt : Card → List ℕ → Spot → Bool
@@ -61,6 +65,20 @@ searchFrom card (suc d) t at i so =
 -- the search in the octets: an element takes an octet at least
 unfoldable pub searchOf : Card → List ℕ → Found
 searchOf card s = searchFrom card (length s) s 0 0 (None 0)
+
+-- ── the fields lent ──
+-- the card with these hashes and this serial
+abbrev pub cardWith : List ℕ → List ℕ → List ℕ → Card
+cardWith name key serial = record { name = name; key = key; serial = serial; size = length serial }
+
+-- the content of an entry begins with a CertID for the card
+unfoldable pub beginsWith : Card → List ℕ → Bool
+beginsWith card c = isAt card c (expected 0x30 (headerOf c))
+
+-- what the search sees, by the header and whether the element is an entry for the card
+unfoldable pub seenOf : Bool → Header → Seen
+seenOf here (header.Found t h n) = Next (h + n) here
+seenOf here (header.Refused p) = End
 
 -- ── over the reading ──
 -- the same of entries that are read: the next one's place is after the forms of those before it

@@ -21,3 +21,9 @@ pub enum Found {
         second: usize,
     },
 }
+
+// What the search sees at a place: no element, or the size of one and whether it is an entry for the card.
+pub enum Seen {
+    End,
+    Next { size: usize, here: bool },
+}

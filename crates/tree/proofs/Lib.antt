@@ -1,1 +1,2 @@
 pub mod TreeCases
+pub mod LightCases

@@ -5,22 +5,24 @@
 use Prim.Native.Nat.{ℕ, zero, suc, _+_, _-_, _*_, _^_, _≤_, _<_}
 use native.Mathlib.Omega.{arith}
 use mathlib.Core.Path.{_≡_, refl, sym, ap, _∙_}
-use mathlib.Core.Bool.{true, false}
+use mathlib.Core.Bool.{Bool, true, false, cond}
 use mathlib.Core.List.{List}
-use lib.ListN.{length, take, drop, length-take, length-drop}
+use lib.Dec.{eqb}
+use lib.ListN.{length, getD, take, drop, length-take, length-drop}
 use borrow.Author.Tests.{eq-eqb, ne-eqb}
 use mir.Syntax.{w64}
 use mir.Val.{Fits}
 use Rattle.element.specs.Tag.{tagOf}
 use Rattle.element.specs.Header.{headerOf}
-use Rattle.element.specs.HeaderLaws.{header-inside}
+use Rattle.element.specs.HeaderLaws.{header-inside, header-tag}
 use Rattle.element.specs.declared.Tag.{Tag}
 use Rattle.element.specs.declared.Header.{Header}
 use Rattle.element.specs.declared.Header.the-variants.{Found, Refused}
+use Rattle.codec.specs.Codec.{bad}
 use Rattle.codec.specs.Any.{all}
 use Rattle.codec.specs.Tree.{constructed}
 use Rattle.codec.specs.TreeRead.{tree, treeDec, nodeDec}
-use Rattle.codec.specs.TreeTagged.{treeTaggedDec}
+use Rattle.codec.specs.TreeTagged.{wantedOf, treeTaggedDec}
 use Rattle.codec.specs.Many.{allDec}
 use Rattle.codec.specs.Views.{stepOf, fitOf}
 use Rattle.codec.specs.ViewLaws.{fit-fits, fit-breaks}
@@ -28,6 +30,7 @@ use Rattle.codec.specs.declared.Step.{Step}
 use Rattle.codec.specs.declared.Step.the-variants.{Taken, Bad}
 use Rattle.codec.specs.declared.Fit.{Fit}
 use Rattle.codec.specs.declared.Fit.the-variants as fit
+use Rattle.tree.specs.Light.{unwantedOf}
 
 -- by the depth
 pub too-deep : (d : ℕ) (s : List ℕ) → d ≡ 0 → Bad 0 ≡ stepOf (treeDec d s)
@@ -98,17 +101,51 @@ module _ (s : List ℕ) (r : Header) (q : r ≡ headerOf s) where
             let v = fit-breaks (all (tree (d - 1))) (take n (drop h s)) p (run-is t h n f (d - 1) x c ∙ y) in
             rw (one-less d s z, ← q, f, bit, b, v .0)
 
-  -- by the tag that is wanted
-  module _ (t d : ℕ) where
-    pub wanted-refused : (p : ℕ) → r ≡ Refused p → Bad p ≡ stepOf (treeTaggedDec t d s)
-    unfolding treeTaggedDec stepOf
-    wanted-refused p f = rw (← q, f)
+-- an element that is refused whatever it holds
+module _ (s : List ℕ) (r : Header) (q : r ≡ headerOf s) where
+  pub unwanted-refused : (p : ℕ) → r ≡ Refused p → Bad p ≡ unwantedOf (headerOf s)
+  unfolding unwantedOf
+  unwanted-refused p f = rw (← q, f)
 
-    module _ (u h n : ℕ) (f : r ≡ Found u h n) where
-      pub wanted-other : (u ≡ t → ⊥) → Bad 0 ≡ stepOf (treeTaggedDec t d s)
-      unfolding treeTaggedDec stepOf
-      wanted-other o = rw (← q, f, ne-eqb u t o)
+  pub unwanted-found : (t h n : ℕ) → r ≡ Found t h n → Bad 0 ≡ unwantedOf (headerOf s)
+  unfolding unwantedOf
+  unwanted-found t h n f = rw (← q, f)
 
-      pub wanted-found : u ≡ t → (x : Step) → x ≡ stepOf (treeDec d s) → x ≡ stepOf (treeTaggedDec t d s)
-      unfolding treeTaggedDec
-      wanted-found o x e = rw (← q, f, eq-eqb u t o) e
+-- by the first octet, where it is the tag that is wanted or not
+module _ (t d : ℕ) (s : List ℕ) (x : Step) where
+  module _ (e : x ≡ unwantedOf (headerOf s)) where
+    pub wanted-shallow : d ≡ 0 → x ≡ stepOf (treeTaggedDec t d s)
+    unfolding treeTaggedDec stepOf unwantedOf
+    wanted-shallow z = e ∙ go (headerOf s)
+      where
+        on : (b : Bool) → Bad 0 ≡ stepOf (cond b (treeDec d s) (bad 0))
+        on true = too-deep d s z
+        on false = refl
+
+        go : (y : Header) → unwantedOf y ≡ stepOf (wantedOf t (treeDec d) s y)
+        go (Refused p) = refl
+        go (Found u h n) = on (eqb u t)
+
+    pub wanted-none : length s ≡ 0 → x ≡ stepOf (treeTaggedDec t d s)
+    unfolding treeTaggedDec stepOf unwantedOf
+    wanted-none z = e ∙ go (headerOf s) refl
+      where
+        go : (y : Header) → headerOf s ≡ y → unwantedOf y ≡ stepOf (wantedOf t (treeDec d) s y)
+        go (Refused p) q = refl
+        go (Found u h n) q = absurd (omega (arith, header-inside s u h n q))
+
+    pub wanted-other : (getD s 0 0 ≡ t → ⊥) → x ≡ stepOf (treeTaggedDec t d s)
+    unfolding treeTaggedDec stepOf unwantedOf
+    wanted-other o = e ∙ go (headerOf s) refl
+      where
+        go : (y : Header) → headerOf s ≡ y → unwantedOf y ≡ stepOf (wantedOf t (treeDec d) s y)
+        go (Refused p) q = refl
+        go (Found u h n) q = rw (ne-eqb u t (λ i. o (header-tag s u h n q ∙ i)))
+
+  pub wanted-found : (d ≡ 0 → ⊥) → getD s 0 0 ≡ t → x ≡ stepOf (treeDec d s) → x ≡ stepOf (treeTaggedDec t d s)
+  unfolding treeTaggedDec stepOf
+  wanted-found z o e = e ∙ go (headerOf s) refl
+    where
+      go : (y : Header) → headerOf s ≡ y → stepOf (treeDec d s) ≡ stepOf (wantedOf t (treeDec d) s y)
+      go (Refused p) q = sym (refused s (Refused p) (sym q) d z p refl)
+      go (Found u h n) q = rw (eq-eqb u t (sym (header-tag s u h n q) ∙ o))

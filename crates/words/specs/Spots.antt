@@ -1,13 +1,14 @@
 -- The layout's primitive elements seen as positions: what the readers answer.
--- expected, spotOf, stampOf, codeOf; singleAt, emptyAt. Their laws are in SpotLaws.
+-- shortHead, expected, spotOf, stampOf, codeOf; singleAt, emptyAt. Their laws are in SpotLaws.
 -- A place is counted from the start of the list. That an element takes so many octets is stepOf, in
 -- codec's Views.
 -- Assumes nothing.
 use Prim.Native.Nat.{ℕ, _-_}
-use mathlib.Core.Bool.{true, cond}
+use mathlib.Core.Bool.{Bool, true, false, cond}
 use mathlib.Core.List.{List, []}
-use lib.Dec.{eqb}
-use lib.ListN.{length}
+use lib.Dec.{eqb, ltb, leb}
+use lib.ListN.{length, getD}
+use Rattle.element.specs.Tag.{tagOk}
 use Rattle.element.specs.declared.Header.{Header}
 use Rattle.element.specs.declared.Header.the-variants.{Found, Refused}
 use Rattle.codec.specs.Codec.{Got, got, bad}
@@ -20,6 +21,16 @@ use Rattle.words.specs.declared.Stamp.{Stamp}
 use Rattle.words.specs.declared.Stamp.the-variants as stamp
 use Rattle.words.specs.declared.Code.{Code}
 use Rattle.words.specs.declared.Code.the-variants as code
+
+-- the tag, a length of one octet, and the element ends inside the list
+unfoldable pub shortHead : ℕ → List ℕ → Bool
+shortHead t s =
+    cond (ltb (length s) 2) false
+    (cond (eqb (getD s 0 0) t)
+    (cond (ltb (getD s 1 0) 128)
+    (cond (leb (getD s 1 0) (length s - 2)) (tagOk t) false)
+    false)
+    false)
 
 -- by the header: where the content of an element with this tag is, or the place that is wrong
 unfoldable pub expected : ℕ → Header → Spot

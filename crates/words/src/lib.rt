@@ -7,6 +7,7 @@ mod numbers; // contents that are read as numbers
 mod singles; // contents of one octet, and of none
 mod spots; // contents that stay octets
 
+pub use numbers::judge_time;
 pub use numbers::read_serial;
 pub use numbers::read_time;
 pub use singles::read_code;

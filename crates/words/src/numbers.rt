@@ -44,3 +44,21 @@ pub fn read_time(s: &[u8]) -> Stamp
         }
     }
 }
+
+// A time, whose seconds nobody asks for.
+pub fn judge_time(s: &[u8]) -> Step
+    ensures { λ r. ⌜ r ≡ stepOf (time .dec (now (s .entry))) ⌝ }
+{
+    let place = spots::expect(s, 0x18);
+    match place {
+        Spot::Wrong(p) => Step::Bad(p),
+        Spot::At { start, len } => {
+            let after = start + len;
+            if calendar::time_fits(&s[start..after]) {
+                Step::Taken(after)
+            } else {
+                Step::Bad(0)
+            }
+        }
+    }
+}

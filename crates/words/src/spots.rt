@@ -6,10 +6,29 @@ ghost use Rattle.element.specs.Header.{headerOf};
 ghost use Rattle.layout.specs.Words.{between, anything};
 ghost use Rattle.layout.specs.Kinds.{string, oid};
 ghost use Rattle.layout.specs.Format.{signatureBits};
-ghost use Rattle.words.specs.Spots.{expected, spotOf};
+ghost use Rattle.words.specs.Spots.{shortHead, expected, spotOf};
 
-// The content of an element with this tag, which ends inside s.
-pub fn expect(s: &[u8], tag: u8) -> Spot
+// Whether the head of s is this tag and a length of one octet, and the element ends inside s.
+fn is_short(s: &[u8], tag: u8) -> bool
+    ensures { λ r. ⌜ r ≡ shortHead tag (now (s .entry)) ⌝ }
+{
+    if s.len() < 2 {
+        return false;
+    }
+    if s[0] != tag {
+        return false;
+    }
+    if 127 < s[1] {
+        return false;
+    }
+    if s.len() - 2 < s[1] as usize {
+        return false;
+    }
+    element::tag_fits(tag)
+}
+
+// The content of an element with this tag, by its header.
+fn expect_any(s: &[u8], tag: u8) -> Spot
     ensures { λ r. ⌜ r ≡ expected tag (headerOf (now (s .entry))) ⌝ }
 {
     let header = element::read_header(s);
@@ -27,6 +46,18 @@ pub fn expect(s: &[u8], tag: u8) -> Spot
             }
         }
     }
+}
+
+// The content of an element with this tag, which ends inside s. Most have a length of one octet, and
+// take no more than a few comparisons.
+pub fn expect(s: &[u8], tag: u8) -> Spot
+    ensures { λ r. ⌜ r ≡ expected tag (headerOf (now (s .entry))) ⌝ }
+{
+    if is_short(s, tag) {
+        let len = s[1] as usize;
+        return Spot::At { start: 2, len };
+    }
+    expect_any(s, tag)
 }
 
 // An OID.

@@ -1,5 +1,5 @@
 -- `tree::read_tree` and `tree::read_run` meet their contracts, each by the other: the octets left fall.
--- The run's loop is at a place up to which the run is read.
+-- The run's loop is at a place up to which the run is read, by an element that is stepped over or read.
 -- Assumes nothing.
 use Prim.Native.Nat.{ℕ, _≤_, _<_, _*_, _+_, _-_}
 use native.Mathlib.Omega.{arith}
@@ -11,8 +11,10 @@ use lib.ListN.{length, drop}
 use Rattle.codec.specs.TreeRead.{tree}
 use Rattle.codec.specs.Views.{later}
 use Rattle.tree.specs.TreeViews.{fitAll, turn-start, turn-end, turn-bad, turn-place, turn-sum, turn-inside, turn-less, turn-next}
-use Rattle.element.proofs.read_header.Reads as read-header-reads
 use Rattle.element.proofs.tag_of.Reads as tag-of-reads
+use Rattle.tree.proofs.heads.header_at.Reads as header-at-reads
+use Rattle.tree.proofs.heads.light.Reads as light-reads
+use Rattle.tree.proofs.LightCases.{over-sum, over-inside, over-less, over-next}
 use Rattle.tree.proofs.TreeCases.{too-deep, run-falls, tree-falls, found-end, found-sum, refused, primitive, run-fits, run-breaks, run-place}
 use Rattle.tree.proofs.read_run.Reads as run-reads
 use Rattle.tree.proofs.read_run.Kinds as run-kinds
@@ -45,12 +47,17 @@ module _ (t : ℕ) where
 
   -- what each may take of the functions that it calls
   abbrev run-calls : run-lts.Claims
-  run-calls = (and 1 tree-kinds.ps (falls 1 tree-kinds.ps _<_ μ-tree t) tree-reads.Pre, tree-reads.Post)
+  run-calls = (
+    light-reads.Asked,
+    light-reads.Learnt,
+    and 1 tree-kinds.ps (falls 1 tree-kinds.ps _<_ μ-tree t) tree-reads.Pre,
+    tree-reads.Post,
+  )
 
   abbrev tree-calls : tree-lts.Claims
   tree-calls = (
-    read-header-reads.Asked,
-    read-header-reads.Learnt,
+    header-at-reads.Asked,
+    header-at-reads.Learnt,
     tag-of-reads.Asked,
     tag-of-reads.Learnt,
     and 1 run-kinds.ps (falls 1 run-kinds.ps _<_ μ-run t) run-reads.Pre,
@@ -59,6 +66,27 @@ module _ (t : ℕ) where
 
   run-loop-holds : run-lts.Need-loop-holds run-calls run-at run-reads.Post Inv-loop μ-loop
   run-loop-holds c = (omega arith, search turn-start)
+
+  run-sub-light : run-lts.Need-sub-light run-calls run-at run-reads.Post Inv-loop μ-loop
+  run-sub-light c = search needs
+
+  run-part-light-start : run-lts.Need-part-light-start run-calls run-at run-reads.Post Inv-loop μ-loop
+  run-part-light-start c = search needs
+
+  run-part-light-end : run-lts.Need-part-light-end run-calls run-at run-reads.Post Inv-loop μ-loop
+  run-part-light-end c = search needs
+
+  run-light-requires : run-lts.Need-light-requires run-calls run-at run-reads.Post Inv-loop μ-loop
+  run-light-requires c κs = search needs
+
+  run-add-at : run-lts.Need-add-at run-calls run-at run-reads.Post Inv-loop μ-loop
+  run-add-at c = search over-sum
+
+  run-loop-less : run-lts.Need-loop-less run-calls run-at run-reads.Post Inv-loop μ-loop
+  run-loop-less c = search over-less
+
+  run-loop-again : run-lts.Need-loop-again run-calls run-at run-reads.Post Inv-loop μ-loop
+  run-loop-again c = (search over-inside, search over-next)
 
   run-sub-read-tree : run-lts.Need-sub-read-tree run-calls run-at run-reads.Post Inv-loop μ-loop
   run-sub-read-tree c = search needs
@@ -84,14 +112,14 @@ module _ (t : ℕ) where
   run-enum-known-step-2 : run-lts.Need-enum-known-step-2 run-calls run-at run-reads.Post Inv-loop μ-loop
   run-enum-known-step-2 c = search needs
 
-  run-add-at : run-lts.Need-add-at run-calls run-at run-reads.Post Inv-loop μ-loop
-  run-add-at c = search turn-sum
+  run-add-at-2 : run-lts.Need-add-at-2 run-calls run-at run-reads.Post Inv-loop μ-loop
+  run-add-at-2 c = search turn-sum
 
-  run-loop-less : run-lts.Need-loop-less run-calls run-at run-reads.Post Inv-loop μ-loop
-  run-loop-less c = search turn-less
+  run-loop-less-2 : run-lts.Need-loop-less-2 run-calls run-at run-reads.Post Inv-loop μ-loop
+  run-loop-less-2 c = search turn-less
 
-  run-loop-again : run-lts.Need-loop-again run-calls run-at run-reads.Post Inv-loop μ-loop
-  run-loop-again c = (search turn-inside, search turn-next)
+  run-loop-again-2 : run-lts.Need-loop-again-2 run-calls run-at run-reads.Post Inv-loop μ-loop
+  run-loop-again-2 c = (search turn-inside, search turn-next)
 
   run-returns-2 : run-lts.Need-returns-2 run-calls run-at run-reads.Post Inv-loop μ-loop
   run-returns-2 c = search turn-end
@@ -99,8 +127,8 @@ module _ (t : ℕ) where
   tree-returns : tree-lts.Need-returns tree-calls tree-at tree-reads.Post
   tree-returns c = search too-deep
 
-  tree-read-header-requires : tree-lts.Need-read-header-requires tree-calls tree-at tree-reads.Post
-  tree-read-header-requires c κs = search needs
+  tree-header-at-requires : tree-lts.Need-header-at-requires tree-calls tree-at tree-reads.Post
+  tree-header-at-requires c κs = search needs
 
   tree-enum-known-header : tree-lts.Need-enum-known-header tree-calls tree-at tree-reads.Post
   tree-enum-known-header c = search needs
@@ -155,6 +183,13 @@ pub +read-run+read-tree-spec : {M : Type 1} → statement M
     close μ-run μ-tree
     (λ t. run-lts.spec (run-calls t) (run-at t) run-reads.Post Inv-loop μ-loop
     (run-loop-holds t)
+    (run-sub-light t)
+    (run-part-light-start t)
+    (run-part-light-end t)
+    (run-light-requires t)
+    (run-add-at t)
+    (run-loop-less t)
+    (run-loop-again t)
     (run-sub-read-tree t)
     (run-part-read-tree-start t)
     (run-part-read-tree-end t)
@@ -163,13 +198,13 @@ pub +read-run+read-tree-spec : {M : Type 1} → statement M
     (run-add-place t)
     (run-returns t)
     (run-enum-known-step-2 t)
-    (run-add-at t)
-    (run-loop-less t)
-    (run-loop-again t)
+    (run-add-at-2 t)
+    (run-loop-less-2 t)
+    (run-loop-again-2 t)
     (run-returns-2 t))
     λ t. tree-lts.spec (tree-calls t) (tree-at t) tree-reads.Post
     (tree-returns t)
-    (tree-read-header-requires t)
+    (tree-header-at-requires t)
     (tree-enum-known-header t)
     (tree-enum-known-header-2 t)
     (tree-add-end t)

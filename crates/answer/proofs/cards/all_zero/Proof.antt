@@ -1,28 +1,30 @@
--- `answer::cards::all_zero` meets its contract. The loop's invariant: the answer is that of what is left.
+-- `answer::cards::all_zero` meets its contract. The loop's invariant: the answer is that of the octets before and of what is left.
 -- Assumes nothing.
 use Prim.Native.Nat.{_-_, _≤_}
 use native.Mathlib.Omega.{arith}
 use mathlib.Core.Path.{_≡_, refl}
+use mathlib.Core.Bool.{false, cond}
+use borrow.Author.Needs.{needs}
 use lib.ListN.{length, drop}
 use Rattle.answer.specs.Card.{allZero}
-use Rattle.answer.proofs.Cases.{zero-next, zero-stop, zero-end}
+use Rattle.answer.proofs.Cases.{zero-next, zero-end}
 use Rattle.answer.proofs.cards.all_zero.Statement.{statement}
 use Rattle.answer.proofs.cards.all_zero.Tie as tie
 
 abbrev Inv-loop : tie.InvT-loop
-Inv-loop s i₀ i = (i ≤ length s) × (allZero s ≡ allZero (drop i s))
+Inv-loop s zero₀ i₀ zero i = (i ≤ length s) × (allZero s ≡ cond zero (allZero (drop i s)) false)
 
 abbrev μ-loop : tie.MeasureT-loop
-μ-loop s i₀ i = length s - i
+μ-loop s zero₀ i₀ zero i = length s - i
 
 loop-holds : tie.Need-loop-holds Inv-loop μ-loop
 loop-holds c = (omega arith, refl)
 
-shared-slice-read-if1 : tie.Need-shared-slice-read-if1 Inv-loop μ-loop
-shared-slice-read-if1 c = omega arith
+shared-slice-read-still-zero : tie.Need-shared-slice-read-still-zero Inv-loop μ-loop
+shared-slice-read-still-zero c = omega arith
 
-returns : tie.Need-returns Inv-loop μ-loop
-returns c = search zero-stop
+still-zero-requires : tie.Need-still-zero-requires Inv-loop μ-loop
+still-zero-requires c κs = search needs
 
 add-i : tie.Need-add-i Inv-loop μ-loop
 add-i c = omega arith
@@ -33,8 +35,8 @@ loop-less c = omega arith
 loop-again : tie.Need-loop-again Inv-loop μ-loop
 loop-again c = (omega arith, search zero-next)
 
-returns-2 : tie.Need-returns-2 Inv-loop μ-loop
-returns-2 c = search zero-end
+returns : tie.Need-returns Inv-loop μ-loop
+returns c = search zero-end
 
 pub all-zero-spec : {M : Type 1} → statement M
 all-zero-spec =
@@ -43,9 +45,9 @@ all-zero-spec =
     Inv-loop
     μ-loop
     loop-holds
-    shared-slice-read-if1
-    returns
+    shared-slice-read-still-zero
+    still-zero-requires
     add-i
     loop-less
     loop-again
-    returns-2)
+    returns)

@@ -1,58 +1,21 @@
--- `cert::algorithms::read_algorithm` meets its contract, by the header and the content.
+-- `cert::algorithms::read_algorithm` meets its contract: by the octets where they are the usual ones, else by any identifier.
 -- Assumes nothing.
 use borrow.Author.Needs.{needs}
-use Rattle.layout.specs.Format.{algorithmIdentifier}
-use Rattle.cert.specs.SeqCases.{tagged-wrong, tagged-sum, tagged-end, tagged-closed}
+use Rattle.cert.specs.Usual.{usual-read}
 use Rattle.cert.proofs.algorithms.read_algorithm.Statement.{statement}
 use Rattle.cert.proofs.algorithms.read_algorithm.Tie as tie
 
-expect-requires : tie.Need-expect-requires
-expect-requires c κs = search needs
-
-enum-known-spot : tie.Need-enum-known-spot
-enum-known-spot c = search needs
-
-enum-known-spot-2 : tie.Need-enum-known-spot-2
-enum-known-spot-2 c = search needs
-
-add-end : tie.Need-add-end
-add-end c = search tagged-sum
-
-sub-algorithm-body : tie.Need-sub-algorithm-body
-sub-algorithm-body c = search needs
-
-part-algorithm-body-start : tie.Need-part-algorithm-body-start
-part-algorithm-body-start c = search needs
-
-part-algorithm-body-end : tie.Need-part-algorithm-body-end
-part-algorithm-body-end c = search tagged-end
-
-algorithm-body-requires : tie.Need-algorithm-body-requires
-algorithm-body-requires c κs = search needs
-
-closed-requires : tie.Need-closed-requires
-closed-requires c κs = search needs
+is-usual-requires : tie.Need-is-usual-requires
+is-usual-requires c κs = search needs
 
 returns : tie.Need-returns
-unfolding algorithmIdentifier
-returns c = search tagged-wrong
+returns c = search usual-read
+
+any-algorithm-requires : tie.Need-any-algorithm-requires
+any-algorithm-requires c κs = search needs
 
 returns-2 : tie.Need-returns-2
-unfolding algorithmIdentifier
-returns-2 c = search tagged-closed
+returns-2 c = search needs
 
 pub read-algorithm-spec : {M : Type 1} → statement M
-read-algorithm-spec =
-    tie.close
-    (tie.spec
-    expect-requires
-    enum-known-spot
-    enum-known-spot-2
-    add-end
-    sub-algorithm-body
-    part-algorithm-body-start
-    part-algorithm-body-end
-    algorithm-body-requires
-    closed-requires
-    returns
-    returns-2)
+read-algorithm-spec = tie.close (tie.spec is-usual-requires returns any-algorithm-requires returns-2)

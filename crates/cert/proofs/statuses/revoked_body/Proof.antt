@@ -3,12 +3,12 @@
 use borrow.Author.Needs.{needs}
 use Rattle.layout.specs.Kinds.{time, optional}
 use Rattle.layout.specs.Format.{reason, reason-starts, revokedBody}
-use Rattle.cert.specs.SeqCases.{stamp-wrong, stamp-end, stamp-after}
+use Rattle.cert.specs.SeqCases.{field-wrong, field-end, field-after}
 use Rattle.cert.proofs.statuses.revoked_body.Statement.{statement}
 use Rattle.cert.proofs.statuses.revoked_body.Tie as tie
 
-read-time-requires : tie.Need-read-time-requires
-read-time-requires c κs = search needs
+judge-time-requires : tie.Need-judge-time-requires
+judge-time-requires c κs = search needs
 
 enum-known-time : tie.Need-enum-known-time
 enum-known-time c = search needs
@@ -17,10 +17,10 @@ enum-known-time-2 : tie.Need-enum-known-time-2
 enum-known-time-2 c = search needs
 
 sub-reason-maybe : tie.Need-sub-reason-maybe
-sub-reason-maybe c = search (stamp-end time)
+sub-reason-maybe c = search (field-end time)
 
 part-reason-maybe-start : tie.Need-part-reason-maybe-start
-part-reason-maybe-start c = search (stamp-end time)
+part-reason-maybe-start c = search (field-end time)
 
 part-reason-maybe-end : tie.Need-part-reason-maybe-end
 part-reason-maybe-end c = search needs
@@ -33,17 +33,17 @@ after-requires c κs = search needs
 
 returns : tie.Need-returns
 unfolding revokedBody
-returns c = search (stamp-wrong time)
+returns c = search (field-wrong time)
 
 returns-2 : tie.Need-returns-2
 unfolding revokedBody
-returns-2 c = search (stamp-after time (optional 0xa0 reason reason-starts))
+returns-2 c = search (field-after time (optional 0xa0 reason reason-starts))
 
 pub revoked-body-spec : {M : Type 1} → statement M
 revoked-body-spec =
     tie.close
     (tie.spec
-    read-time-requires
+    judge-time-requires
     enum-known-time
     enum-known-time-2
     sub-reason-maybe

@@ -1,4 +1,5 @@
 -- `deskcase::asked::form_fits` meets its contract, test by test. Assumes nothing.
+use native.Mathlib.Omega.{arith}
 use borrow.Author.Needs.{needs}
 use Rattle.deskcase.proofs.Cases.{form-long, form-kind, form-name, form-fill}
 use Rattle.deskcase.proofs.asked.form_fits.Statement.{statement}
@@ -17,7 +18,7 @@ value-at-requires : tie.Need-value-at-requires
 value-at-requires c κs = search needs
 
 returns-3 : tie.Need-returns-3
-returns-3 c = search form-name
+returns-3 c = form-name _ (c .before .before .before .before .if1 .left) (c .before .before .if2 .left) _ (c .before .value-at .ensures) (omega arith)
 
 add-end : tie.Need-add-end
 add-end c = search needs

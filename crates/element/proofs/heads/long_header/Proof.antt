@@ -11,8 +11,8 @@ add-start c = search needs
 returns : tie.Need-returns
 returns c = search cut-off
 
-number-at-requires : tie.Need-number-at-requires
-number-at-requires c κs = search needs
+length-in-requires : tie.Need-length-in-requires
+length-in-requires c κs = search needs
 
 enum-known-n : tie.Need-enum-known-n
 enum-known-n c = search needs
@@ -41,7 +41,7 @@ long-header-spec =
     (tie.spec
     add-start
     returns
-    number-at-requires
+    length-in-requires
     enum-known-n
     enum-told
     returns-2

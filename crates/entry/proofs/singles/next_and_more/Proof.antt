@@ -2,7 +2,7 @@
 -- Assumes nothing.
 use borrow.Author.Needs.{needs}
 use Rattle.layout.specs.Format.{nextUpdate}
-use Rattle.cert.specs.SeqCases.{stamp-wrong, stamp-end, stamp-after, option-there, option-missing}
+use Rattle.cert.specs.SeqCases.{field-wrong, field-end, field-after, option-there, option-missing}
 use Rattle.entry.specs.Tails.{extensionsOn, nextOn}
 use Rattle.entry.proofs.singles.next_and_more.Statement.{statement}
 use Rattle.entry.proofs.singles.next_and_more.Tie as tie
@@ -10,8 +10,8 @@ use Rattle.entry.proofs.singles.next_and_more.Tie as tie
 starts-with-requires : tie.Need-starts-with-requires
 starts-with-requires c κs = search needs
 
-read-next-requires : tie.Need-read-next-requires
-read-next-requires c κs = search needs
+judge-next-requires : tie.Need-judge-next-requires
+judge-next-requires c κs = search needs
 
 enum-known-until : tie.Need-enum-known-until
 enum-known-until c = search needs
@@ -20,10 +20,10 @@ enum-known-until-2 : tie.Need-enum-known-until-2
 enum-known-until-2 c = search needs
 
 sub-extensions-maybe : tie.Need-sub-extensions-maybe
-sub-extensions-maybe c = search (stamp-end nextUpdate)
+sub-extensions-maybe c = search (field-end nextUpdate)
 
 part-extensions-maybe-start : tie.Need-part-extensions-maybe-start
-part-extensions-maybe-start c = search (stamp-end nextUpdate)
+part-extensions-maybe-start c = search (field-end nextUpdate)
 
 part-extensions-maybe-end : tie.Need-part-extensions-maybe-end
 part-extensions-maybe-end c = search needs
@@ -39,11 +39,11 @@ extensions-maybe-requires-2 c κs = search needs
 
 returns : tie.Need-returns
 unfolding nextOn
-returns c = search (option-there 0xa0 nextUpdate extensionsOn, stamp-wrong nextUpdate)
+returns c = search (option-there 0xa0 nextUpdate extensionsOn, field-wrong nextUpdate)
 
 returns-2 : tie.Need-returns-2
 unfolding nextOn
-returns-2 c = search (option-there 0xa0 nextUpdate extensionsOn, stamp-after nextUpdate extensionsOn)
+returns-2 c = search (option-there 0xa0 nextUpdate extensionsOn, field-after nextUpdate extensionsOn)
 
 returns-3 : tie.Need-returns-3
 unfolding nextOn
@@ -54,7 +54,7 @@ next-and-more-spec =
     tie.close
     (tie.spec
     starts-with-requires
-    read-next-requires
+    judge-next-requires
     enum-known-until
     enum-known-until-2
     sub-extensions-maybe

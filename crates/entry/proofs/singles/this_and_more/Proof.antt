@@ -2,13 +2,13 @@
 -- Assumes nothing.
 use borrow.Author.Needs.{needs}
 use Rattle.layout.specs.Kinds.{time}
-use Rattle.cert.specs.SeqCases.{stamp-wrong, stamp-end, stamp-after}
+use Rattle.cert.specs.SeqCases.{field-wrong, field-end, field-after}
 use Rattle.entry.specs.Tails.{nextOn, thisOn}
 use Rattle.entry.proofs.singles.this_and_more.Statement.{statement}
 use Rattle.entry.proofs.singles.this_and_more.Tie as tie
 
-read-time-requires : tie.Need-read-time-requires
-read-time-requires c κs = search needs
+judge-time-requires : tie.Need-judge-time-requires
+judge-time-requires c κs = search needs
 
 enum-known-this : tie.Need-enum-known-this
 enum-known-this c = search needs
@@ -17,10 +17,10 @@ enum-known-this-2 : tie.Need-enum-known-this-2
 enum-known-this-2 c = search needs
 
 sub-next-and-more : tie.Need-sub-next-and-more
-sub-next-and-more c = search (stamp-end time)
+sub-next-and-more c = search (field-end time)
 
 part-next-and-more-start : tie.Need-part-next-and-more-start
-part-next-and-more-start c = search (stamp-end time)
+part-next-and-more-start c = search (field-end time)
 
 part-next-and-more-end : tie.Need-part-next-and-more-end
 part-next-and-more-end c = search needs
@@ -33,17 +33,17 @@ after-requires c κs = search needs
 
 returns : tie.Need-returns
 unfolding thisOn
-returns c = search (stamp-wrong time)
+returns c = search (field-wrong time)
 
 returns-2 : tie.Need-returns-2
 unfolding thisOn
-returns-2 c = search (stamp-after time nextOn)
+returns-2 c = search (field-after time nextOn)
 
 pub this-and-more-spec : {M : Type 1} → statement M
 this-and-more-spec =
     tie.close
     (tie.spec
-    read-time-requires
+    judge-time-requires
     enum-known-this
     enum-known-this-2
     sub-next-and-more

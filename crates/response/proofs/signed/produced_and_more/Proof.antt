@@ -5,8 +5,8 @@ use Rattle.response.proofs.SignedCases.{produced-wrong, produced-end, l
 use Rattle.response.proofs.signed.produced_and_more.Statement.{statement}
 use Rattle.response.proofs.signed.produced_and_more.Tie as tie
 
-read-time-requires : tie.Need-read-time-requires
-read-time-requires c κs = search needs
+judge-time-requires : tie.Need-judge-time-requires
+judge-time-requires c κs = search needs
 
 enum-known-produced : tie.Need-enum-known-produced
 enum-known-produced c = search needs
@@ -51,7 +51,7 @@ pub produced-and-more-spec : {M : Type 1} → statement M
 produced-and-more-spec =
     tie.close
     (tie.spec
-    read-time-requires
+    judge-time-requires
     enum-known-produced
     enum-known-produced-2
     sub-entries-and-more

@@ -1,35 +1,36 @@
--- `words::spots::expect` meets its contract, by the header and its tag.
+-- `words::spots::expect` meets its contract: by two octets where the length is one, else by the whole header.
 -- Assumes nothing.
+use native.Mathlib.Omega.{arith}
 use borrow.Author.Needs.{needs}
-use Rattle.words.proofs.Primitive.{header-refused, header-same, header-other}
+use Rattle.words.proofs.ShortCases.{short-index, short-spot}
 use Rattle.words.proofs.spots.expect.Statement.{statement}
 use Rattle.words.proofs.spots.expect.Tie as tie
 
-read-header-requires : tie.Need-read-header-requires
-read-header-requires c κs = search needs
+is-short-requires : tie.Need-is-short-requires
+is-short-requires c κs = search needs
 
-enum-known-header : tie.Need-enum-known-header
-enum-known-header c = search needs
+shared-slice-read-len : tie.Need-shared-slice-read-len
+shared-slice-read-len c = search short-index
 
-enum-known-header-2 : tie.Need-enum-known-header-2
-enum-known-header-2 c = search needs
+cast-len : tie.Need-cast-len
+cast-len c = omega (arith, c .shared-slice-known2 .given 1)
 
 returns : tie.Need-returns
-returns c = search header-refused
+returns c = search short-spot
+
+expect-any-requires : tie.Need-expect-any-requires
+expect-any-requires c κs = search needs
 
 returns-2 : tie.Need-returns-2
-returns-2 c = search header-same
-
-returns-3 : tie.Need-returns-3
-returns-3 c = search header-other
+returns-2 c = search needs
 
 pub expect-spec : {M : Type 1} → statement M
 expect-spec =
     tie.close
     (tie.spec
-    read-header-requires
-    enum-known-header
-    enum-known-header-2
+    is-short-requires
+    shared-slice-read-len
+    cast-len
     returns
-    returns-2
-    returns-3)
+    expect-any-requires
+    returns-2)

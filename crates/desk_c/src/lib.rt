@@ -1,0 +1,13 @@
+// The library's functions for C and Rust: include/desk.h says what each answers. A slice is a pointer
+// and a length there.
+//
+// No function here has a requirement beyond what its types say, keeps state or allocates.
+mod papers; // the check, requests, slips
+mod shown; // parts of a response
+
+pub use papers::desk_check;
+pub use papers::desk_request;
+pub use papers::desk_slip;
+pub use shown::desk_entry;
+pub use shown::desk_signature;
+pub use shown::desk_signed;

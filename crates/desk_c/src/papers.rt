@@ -1,0 +1,61 @@
+// The check, requests and slips.
+use answer::Verdict;
+use fields::Output;
+ghost use mathlib.Core.Path.{_≡_};
+ghost use mathlib.Core.Bool.{cond};
+ghost use lib.Dec.{ltb};
+ghost use lib.ListN.{length};
+ghost use Rattle.octets.specs.Buffer.{putIn};
+ghost use Rattle.slip.specs.Slip.{slipOf, readOf};
+ghost use Rattle.deskcase.specs.Asked.{asked};
+ghost use Rattle.desk_c.specs.Papers.{slipNumber, sizeOr0, requestSize, requestIn};
+
+// Writes the slip of the answer to a question of 353 octets: its length, or 0 where the buffer is too
+// short.
+#[no_mangle]
+pub extern "C" fn desk_check(question: &[u8], response: &[u8], slip: &mut [u8]) -> usize
+    ensures { λ r. ⌜ r ≡ cond (ltb (length (now (slip .entry))) (length (slipOf (asked (now (question .entry)) (now (response .entry)))))) 0 (length (slipOf (asked (now (question .entry)) (now (response .entry))))) ⌝ }
+    ensures { λ _. ⌜ now (slip .exit) ≡ putIn (now (slip .entry)) 0 (slipOf (asked (now (question .entry)) (now (response .entry)))) ⌝ }
+{
+    deskcase::slip_for(question, response, slip)
+}
+
+// Whether octets are a slip: 0, or 17 where they break the slip rules.
+#[no_mangle]
+pub extern "C" fn desk_slip(slip: &[u8]) -> usize
+    ensures { λ r. ⌜ r ≡ slipNumber (readOf 20 (now (slip .entry)) .verdict) ⌝ }
+{
+    let answer = slips::read_slip(slip);
+    let verdict = answer.verdict;
+    match verdict {
+        Verdict::Good { .. } => 0,
+        Verdict::Revoked { .. } => 0,
+        Verdict::Unknown { .. } => 0,
+        Verdict::Refused { number, .. } => { if number == 17 { 17 } else { 0 } }
+    }
+}
+
+// How many octets a writer wrote.
+fn size_or_0(output: Output) -> usize
+    ensures { λ r. ⌜ r ≡ sizeOr0 output ⌝ }
+{
+    match output {
+        Output::Octets(n) => n,
+        Output::Refused(_) => 0,
+    }
+}
+
+// Writes the request for a card of 61 octets: its length, or 0 where the card does not fit or the
+// buffer is too short.
+#[no_mangle]
+pub extern "C" fn desk_request(card: &[u8], out: &mut [u8]) -> usize
+    ensures { λ r. ⌜ r ≡ requestSize (now (card .entry)) (length (now (out .entry))) ⌝ }
+    ensures { λ _. ⌜ now (out .exit) ≡ requestIn (now (card .entry)) (now (out .entry)) ⌝ }
+{
+    if card.len() != 61 {
+        return 0;
+    }
+    let asked = fields::card_in(card);
+    let output = request::write_request(asked, out);
+    size_or_0(output)
+}

@@ -1,0 +1,112 @@
+-- The cases of a CertID's octets compared with fields: the last octet, then one of two heads.
+-- last-none; long-name, long-key, long-serial, other-last, plain-same, null-same; size-inside, size-taken,
+-- card-same.
+-- The comparison with one head is in FormCases. Assumes nothing.
+use Prim.Native.Nat.{ℕ, _+_, _-_, _≤_, _<_, min}
+use native.Mathlib.Nat.{min-le-right}
+use native.Mathlib.Omega.{arith}
+use mathlib.Core.Path.{_≡_, refl, sym, ap, _∙_}
+use mathlib.Core.Bool.{Bool, true, false, or-false}
+use mathlib.Core.List.{List, [], _∷_, _++_}
+use lib.ListN.{length, getD, take, length-append}
+use lib.Seq.{length-take-le}
+use borrow.Author.Tests.{le-leb, lt-leb}
+use Rattle.octets.specs.Same.{sameOf}
+use Rattle.octets.specs.SameLaws.{same-true}
+use Rattle.element.specs.Form.{formOf}
+use Rattle.matching.specs.CertForm.{cardForm, plainHead, nullHead, sha1Heads, isCardOctets, lastOf, isFields}
+use Rattle.matching.specs.FieldsLaws.{fields-card, serial-taken}
+use Rattle.matching.proofs.FormCases.{short-form, short-length}
+
+-- ---- the last octet
+
+pub last-none : (s : List ℕ) → length s ≡ 0 → 0 ≡ lastOf s
+last-none [] e = refl
+last-none (x ∷ s) e = absurd (omega arith)
+
+last-cons : (x : ℕ) (r : List ℕ) → 0 < length r → lastOf (x ∷ r) ≡ lastOf r
+last-cons x [] h = absurd (omega arith)
+last-cons x (z ∷ q) h =
+    let e : length (x ∷ z ∷ q) - 1 ≡ length (z ∷ q) = omega arith in
+    let f : length (z ∷ q) - 1 ≡ length q = omega arith in
+    ap (λ (k : ℕ). getD (x ∷ z ∷ q) k 0) e ∙ sym (ap (λ (k : ℕ). getD (z ∷ q) k 0) f)
+
+last-append : (s t : List ℕ) → 0 < length t → lastOf (s ++ t) ≡ lastOf t
+last-append [] t h = refl
+last-append (x ∷ s) t h = last-cons x (s ++ t) (omega (arith, length-append s t)) ∙ last-append s t h
+
+-- a tag and a length octet before a content
+last-content : (t : ℕ) (c : List ℕ) → lastOf (t ∷ length c ∷ c) ≡ lastOf c
+last-content t [] = last-cons t (0 ∷ []) (omega arith)
+last-content t (y ∷ c) = last-cons t (length (y ∷ c) ∷ y ∷ c) (omega arith) ∙ last-cons (length (y ∷ c)) (y ∷ c) (omega arith)
+
+-- the octets of a CertID's content end as its serial does
+last-form : (head name key serial : List ℕ) → length serial < 128 → lastOf (cardForm head name key serial) ≡ lastOf serial
+unfolding cardForm
+last-form head name key serial h =
+    let z = short-length 0x02 serial h in
+    let k : 0 < length (formOf 0x04 key ++ formOf 0x02 serial) = omega (arith, length-append (formOf 0x04 key) (formOf 0x02 serial)) in
+    let n : 0 < length (formOf 0x04 name ++ (formOf 0x04 key ++ formOf 0x02 serial)) =
+    omega (arith, length-append (formOf 0x04 name) (formOf 0x04 key ++ formOf 0x02 serial)) in
+    last-append head (formOf 0x04 name ++ (formOf 0x04 key ++ formOf 0x02 serial)) n
+    ∙ last-append (formOf 0x04 name) (formOf 0x04 key ++ formOf 0x02 serial) k
+    ∙ last-append (formOf 0x04 key) (formOf 0x02 serial) (omega arith)
+    ∙ ap lastOf (short-form [] 0x02 serial h)
+    ∙ last-content 0x02 serial
+
+-- ---- one of two heads
+
+module _ (name key serial part : List ℕ) where
+  pub long-name : 127 < length name → false ≡ isFields name key serial part
+  unfolding isFields
+  long-name h = sym (rw (lt-leb (length name) 127 h))
+
+  module _ (n : length name ≤ 127) where
+    pub long-key : 127 < length key → false ≡ isFields name key serial part
+    unfolding isFields
+    long-key h = sym (rw (le-leb (length name) 127 n, lt-leb (length key) 127 h))
+
+    module _ (k : length key ≤ 127) where
+      pub long-serial : 127 < length serial → false ≡ isFields name key serial part
+      unfolding isFields
+      long-serial h = sym (rw (le-leb (length name) 127 n, le-leb (length key) 127 k, lt-leb (length serial) 127 h))
+
+      module _ (s : length serial ≤ 127) where
+        -- another last octet: neither head
+        other-end : (lastOf part ≡ lastOf serial → ⊥) → (head : List ℕ) → sameOf part (cardForm head name key serial) ≡ false
+        other-end d head = go (sameOf part (cardForm head name key serial)) refl
+          where
+            go : (r : Bool) → sameOf part (cardForm head name key serial) ≡ r → r ≡ false
+            go false e = refl
+            go true e = absurd (d (ap lastOf (same-true part (cardForm head name key serial) e) ∙ last-form head name key serial (omega arith)))
+
+        pub other-last : (x y : ℕ) → x ≡ lastOf part → y ≡ lastOf serial → (x ≡ y → ⊥) → false ≡ isFields name key serial part
+        unfolding isCardOctets
+        other-last x y p q d =
+            let e = other-end (λ i. d (p ∙ i ∙ sym q)) in
+            sym (fields-card name key serial part n k s ∙ rw (e plainHead, e nullHead))
+
+        module _ (r : Bool) (e : r ≡ sameOf part (cardForm plainHead name key serial)) where
+          pub plain-same : r ≡ true → true ≡ isFields name key serial part
+          unfolding isCardOctets
+          plain-same t = sym (fields-card name key serial part n k s ∙ rw (← e, t))
+
+          pub null-same : r ≡ false → (w : Bool) → w ≡ sameOf part (cardForm nullHead name key serial) → w ≡ isFields name key serial part
+          unfolding isCardOctets
+          null-same t w i = sym (fields-card name key serial part n k s ∙ simp (← e, t, ← i, or-false))
+
+-- ---- a card's fields
+
+module _ (field : List ℕ) (size n : ℕ) (l : length field ≡ 20) (q : n ≡ min size 20) where
+  pub size-inside : n ≤ length field
+  size-inside = omega (arith, min-le-right size 20)
+
+  pub size-taken : n ≡ length (take n field)
+  size-taken = sym (length-take-le n field size-inside)
+
+  pub card-same : (name key part : List ℕ) → length name ≡ 20 → length key ≡ 20
+      → (r : Bool) → r ≡ isFields name key (take n field) part → r ≡ isCardOctets sha1Heads name key (take size field) part
+  card-same name key part a b r e =
+      e
+      ∙ fields-card name key (take n field) part (omega arith) (omega arith) (omega (arith, size-taken, min-le-right size 20))
+      ∙ ap (λ (x : List ℕ). isCardOctets sha1Heads name key x part) (serial-taken field size n l q)

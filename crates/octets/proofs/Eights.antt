@@ -1,0 +1,119 @@
+-- Eight octets at a place as one number, and two lists compared by such numbers.
+-- eight-is; eights-next, eights-differ, eights-end.
+-- Assumes nothing.
+use Prim.Native.Nat.{ℕ, zero, suc, _+_, _-_, _*_, _≤_, _<_}
+use native.Mathlib.Nat.{add-zero}
+use native.Mathlib.Omega.{arith}
+use mathlib.Core.Path.{_≡_, refl, sym, ap, ap₂, _∙_}
+use mathlib.Core.Bool.{Bool, true, false}
+use mathlib.Core.List.{List, [], _∷_}
+use lib.ListN.{length, getD, take, drop, length-drop}
+use lib.Seq.{getD-drop, drop-drop, length-take-le, take-all}
+use mir.Syntax.{w8}
+use mir.Val.{Fits}
+use borrow.Author.Tests.{eq-eqb}
+use Rattle.octets.specs.Octets.{Octets}
+use Rattle.octets.specs.OctetsLaws.{octets-from, octets-take, octets-drop}
+use Rattle.octets.specs.Number.{valueOf, octetsOf}
+use Rattle.octets.specs.NumberLaws.{octets-value}
+use Rattle.octets.specs.Same.{sameOf}
+use Rattle.octets.specs.SameLaws.{same-true, same-refl}
+
+-- ---- the number
+
+-- eight octets, each with its weight
+weights : (t : List ℕ) → 8 ≤ length t
+    → getD t 0 0 * 72057594037927936 + getD t 1 0 * 281474976710656 + getD t 2 0 * 1099511627776 + getD t 3 0 * 4294967296
+    + (getD t 4 0 * 16777216 + getD t 5 0 * 65536 + getD t 6 0 * 256 + getD t 7 0)
+    ≡ valueOf (take 8 t)
+unfolding valueOf
+weights [] l = absurd (omega arith)
+weights (a ∷ []) l = absurd (omega arith)
+weights (a ∷ b ∷ []) l = absurd (omega arith)
+weights (a ∷ b ∷ c ∷ []) l = absurd (omega arith)
+weights (a ∷ b ∷ c ∷ d ∷ []) l = absurd (omega arith)
+weights (a ∷ b ∷ c ∷ d ∷ e ∷ []) l = absurd (omega arith)
+weights (a ∷ b ∷ c ∷ d ∷ e ∷ f ∷ []) l = absurd (omega arith)
+weights (a ∷ b ∷ c ∷ d ∷ e ∷ f ∷ g ∷ []) l = absurd (omega arith)
+weights (a ∷ b ∷ c ∷ d ∷ e ∷ f ∷ g ∷ h ∷ r) l = omega arith
+
+module _ (s : List ℕ) (at : ℕ) where
+  -- the same at a place
+  pub eight-is : at + 8 ≤ length s
+      → getD s at 0 * 72057594037927936 + getD s (at + 1) 0 * 281474976710656 + getD s (at + 2) 0 * 1099511627776 + getD s (at + 3) 0 * 4294967296
+      + (getD s (at + 4) 0 * 16777216 + getD s (at + 5) 0 * 65536 + getD s (at + 6) 0 * 256 + getD s (at + 7) 0)
+      ≡ valueOf (take 8 (drop at s))
+  eight-is h =
+      let first : getD (drop at s) 0 0 ≡ getD s at 0 = getD-drop at s 0 0 ∙ ap (λ (k : ℕ). getD s k 0) (add-zero at) in
+      rw (
+        ← first,
+        ← getD-drop at s 1 0,
+        ← getD-drop at s 2 0,
+        ← getD-drop at s 3 0,
+        ← getD-drop at s 4 0,
+        ← getD-drop at s 5 0,
+        ← getD-drop at s 6 0,
+        ← getD-drop at s 7 0,
+      ) (weights (drop at s) (omega (arith, length-drop at s)))
+
+-- ---- two lists compared
+
+-- octets with one number and one length are one list
+one-list : (s t : List ℕ) → Octets s → Octets t → length s ≡ length t → valueOf s ≡ valueOf t → s ≡ t
+one-list s t p q l e = sym (octets-value s p) ∙ ap₂ octetsOf l e ∙ octets-value t q
+
+-- lists that begin alike: the answer is that of the rest
+same-rest : (n : ℕ) (a b : List ℕ) → n ≤ length a → n ≤ length b → take n a ≡ take n b → sameOf a b ≡ sameOf (drop n a) (drop n b)
+unfolding sameOf
+same-rest zero a b h g e = refl
+same-rest (suc n) [] b h g e = absurd (omega arith)
+same-rest (suc n) (x ∷ s) [] h g e = absurd (omega arith)
+same-rest (suc n) (x ∷ s) (y ∷ t) h g e =
+    let f : x ≡ y = cc in
+    let r : take n s ≡ take n t = cc in
+    rw (eq-eqb x y f) (same-rest n s t (omega arith) (omega arith) r)
+
+-- eight of what a slice of octets holds
+eight-octets : (s : List ℕ) → ((j : ℕ) → Fits w8 (getD s j 0)) → (i : ℕ) → Octets (take 8 (drop i s))
+eight-octets s k i = octets-take 8 (drop i s) (octets-drop i s (octets-from s (λ j lt. k j .fits)))
+
+-- eight octets in two lists, as code knows them
+module _ (a b : List ℕ) (i x y : ℕ) (u : x ≡ valueOf (take 8 (drop i a))) (v : y ≡ valueOf (take 8 (drop i b))) where
+  module _ (k : (j : ℕ) → Fits w8 (getD a j 0)) (m : (j : ℕ) → Fits w8 (getD b j 0)) (q : length a ≡ length b) (e : x ≡ y) where
+    eights-same : i + 8 ≤ length a → take 8 (drop i a) ≡ take 8 (drop i b)
+    eights-same h =
+        let la = length-take-le 8 (drop i a) (omega (arith, length-drop i a)) in
+        let lb = length-take-le 8 (drop i b) (omega (arith, length-drop i b)) in
+        one-list (take 8 (drop i a)) (take 8 (drop i b)) (eight-octets a k i) (eight-octets b m i) (la ∙ sym lb) (sym u ∙ e ∙ v)
+
+    -- equal
+    pub eights-next : sameOf a b ≡ sameOf (drop i a) (drop i b) → 8 ≤ length a - i → sameOf a b ≡ sameOf (drop (i + 8) a) (drop (i + 8) b)
+    eights-next p h =
+        let la : 8 ≤ length (drop i a) = omega (arith, length-drop i a) in
+        let lb : 8 ≤ length (drop i b) = omega (arith, length-drop i b) in
+        p ∙ same-rest 8 (drop i a) (drop i b) la lb (eights-same (omega arith)) ∙ ap₂ sameOf (drop-drop 8 i a) (drop-drop 8 i b)
+
+  -- not equal
+  pub eights-differ : (x ≡ y → ⊥) → false ≡ sameOf a b
+  eights-differ n = go (sameOf a b) refl
+    where
+      go : (r : Bool) → sameOf a b ≡ r → false ≡ r
+      go false e = refl
+      go true e = absurd (n (u ∙ ap (λ (l : List ℕ). valueOf (take 8 (drop i l))) (same-true a b e) ∙ sym v))
+
+-- what is left has fewer than eight octets, and the last eight are equal
+module _ (a b : List ℕ) (x y : ℕ) (u : x ≡ valueOf (take 8 (drop (length a - 8) a))) (v : y ≡ valueOf (take 8 (drop (length a - 8) b))) where
+  pub eights-end : ((j : ℕ) → Fits w8 (getD a j 0)) → ((j : ℕ) → Fits w8 (getD b j 0)) → length a ≡ length b → x ≡ y
+      → (i : ℕ) → (i ≤ length a) × (sameOf a b ≡ sameOf (drop i a) (drop i b)) → length a - i < 8 → 8 ≤ length a → true ≡ sameOf a b
+  eights-end k m q e i p l h =
+      let o = eights-same a b (length a - 8) x y u v k m q e (omega arith) in
+      let f = take-all 8 (drop (length a - 8) a) (omega (arith, length-drop (length a - 8) a)) in
+      let g = take-all 8 (drop (length a - 8) b) (omega (arith, length-drop (length a - 8) b)) in
+      let n : length a - 8 + (i - (length a - 8)) ≡ i = omega (arith, p .0) in
+      let d : drop i a ≡ drop i b =
+      ap (λ (t : ℕ). drop t a) (sym n)
+      ∙ sym (drop-drop (i - (length a - 8)) (length a - 8) a)
+      ∙ ap (drop (i - (length a - 8))) (sym f ∙ o ∙ g)
+      ∙ drop-drop (i - (length a - 8)) (length a - 8) b
+      ∙ ap (λ (t : ℕ). drop t b) n in
+      sym (p .1 ∙ ap (λ (t : List ℕ). sameOf t (drop i b)) d ∙ same-refl (drop i b))
