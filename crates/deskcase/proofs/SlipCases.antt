@@ -9,22 +9,18 @@ use mathlib.Core.Path.{_≡_, refl, sym, ap, ap₂, _∙_}
 use mathlib.Core.Bool.{Bool, true, false, cond}
 use mathlib.Core.List.{List}
 use lib.Dec.{ltb}
-use lib.ListN.{length, getD, take, drop, replicate, length-drop}
+use lib.ListN.{length, take, drop, replicate, length-drop}
 use lib.Seq.{length-take-le, take-all, take-at}
 use borrow.Author.Tests.{le-ltb}
-use mir.Syntax.{w8}
-use mir.Val.{Fits}
-use Rattle.octets.specs.OctetsLaws.{octets-from}
 use Rattle.octets.specs.Buffer.{putIn}
 use Rattle.octets.specs.BufferLaws.{put-in-room, put-in-length}
 use Rattle.answer.specs.declared.Answer.{Answer}
 use Rattle.fields.specs.declared.Output.{Output}
 use Rattle.fields.specs.declared.Output.the-variants.{Octets as Wrote, Refused}
 use Rattle.fields.specs.Output.{outputOf, outputIn}
-use Rattle.slip.specs.Slip.{slipOf, slipRefusal}
+use Rattle.slip.specs.Slip.{slipOf}
 use Rattle.hex.specs.Hex.{hexLine}
 use Rattle.deskcase.specs.Asked.{asked, deskOf}
-use Rattle.deskcase.specs.FitsLaws.{fits-slip}
 use Rattle.deskcase.specs.Line.{questionEnd, lineOf}
 use Rattle.deskcase.specs.LineLaws.{line-is, end-short, end-long, end-least, cut-question, cut-response, desk-most}
 
@@ -51,19 +47,15 @@ count-none m size k e = go (ltb size k) e
     go true e = refl
     go false e = let z : _≡_ {A = ℕ} 0 1 = cc in absurd (omega arith)
 
-module _ (q r : List ℕ) (octet : (i : ℕ) → Fits w8 (getD r i 0)) (a : Answer) (e : a ≡ asked q r) where
-  clear : slipRefusal a ≡ 0
-  unfolding slipRefusal
-  clear = rw (e, fits-slip q r (octets-from r (λ i lt. octet i .fits)))
-
+module _ (q r : List ℕ) (a : Answer) (e : a ≡ asked q r) where
   -- what the buffer is then
-  pub slip-buffer : (out o : List ℕ) → o ≡ outputIn (slipRefusal a) out (slipOf a) → o ≡ putIn out 0 (slipOf (asked q r))
+  pub slip-buffer : (out o : List ℕ) → o ≡ outputIn 0 out (slipOf a) → o ≡ putIn out 0 (slipOf (asked q r))
   unfolding outputIn
-  slip-buffer out o f = f ∙ rw (clear, e)
+  slip-buffer out o f = f ∙ rw e
 
-  module _ (out : List ℕ) (w : Output) (f : w ≡ outputOf (slipRefusal a) (length out) (length (slipOf a))) where
+  module _ (out : List ℕ) (w : Output) (f : w ≡ outputOf 0 (length out) (length (slipOf a))) where
     same : w ≡ outputOf 0 (length out) (length (slipOf (asked q r)))
-    same = f ∙ ap₂ (λ (k : ℕ) (x : Answer). outputOf k (length out) (length (slipOf x))) clear e
+    same = f ∙ ap (λ (x : Answer). outputOf 0 (length out) (length (slipOf x))) e
 
     pub slip-written : (n : ℕ) → w ≡ Wrote n → n ≡ cond (ltb (length out) (length (slipOf (asked q r)))) 0 (length (slipOf (asked q r)))
     slip-written n i = count-of n (length out) (length (slipOf (asked q r))) (sym i ∙ same)

@@ -16,7 +16,7 @@ pub fn slip_for(question: &[u8], response: &[u8], out: &mut [u8]) -> usize
     ensures { λ _. ⌜ now (out .exit) ≡ putIn (now (out .entry)) 0 (slipOf (asked (now (question .entry)) (now (response .entry)))) ⌝ }
 {
     let answer = asked::ask(question, response);
-    let output = slips::write_slip(answer, out);
+    let output = slips::write_kept(answer, out);
     match output {
         Output::Octets(n) => n,
         Output::Refused(_) => 0,

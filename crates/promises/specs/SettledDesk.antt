@@ -15,6 +15,7 @@ use Rattle.slip.proofs.size_of.Reads as slip-size-of
 use Rattle.slip.proofs.slip_size.Reads as slip-slip-size
 use Rattle.slip.proofs.slip_fits.Reads as slip-slip-fits
 use Rattle.slips.proofs.write_slip.Reads as slips-write-slip
+use Rattle.slips.proofs.write_kept.Reads as slips-write-kept
 use Rattle.slips.proofs.read_slip.Reads as slips-read-slip
 use Rattle.hex.proofs.hex.Reads as hex-hex
 use Rattle.hex.proofs.hex_line.Reads as hex-hex-line
@@ -61,6 +62,12 @@ slips-write-slip-settled = settled _ _ _ (λ k a. tt) (λ k a z e p. p .0)
 
 pub slips-write-slip-buffer : Settles slips-write-slip.Asked slips-write-slip.Learnt (λ k z e. now (e .1 .0))
 slips-write-slip-buffer = settles _ _ (λ k z e. now (e .1 .0)) _ (λ k a. tt) (λ k a z e p. p .1)
+
+pub slips-write-kept-settled : Settled slips-write-kept.Asked slips-write-kept.Learnt
+slips-write-kept-settled = settled _ _ _ (λ k a. tt) (λ k a z e p. p .0)
+
+pub slips-write-kept-buffer : Settles slips-write-kept.Asked slips-write-kept.Learnt (λ k z e. now (e .1 .0))
+slips-write-kept-buffer = settles _ _ (λ k z e. now (e .1 .0)) _ (λ k a. tt) (λ k a z e p. p .1)
 
 pub slips-read-slip-settled : Settled slips-read-slip.Asked slips-read-slip.Learnt
 slips-read-slip-settled = settled _ _ _ (λ k a. tt) (λ k a z e p. p)

@@ -1,9 +1,9 @@
 -- The cases of the writer's answer: what each return has learned of the rules and the room.
--- refusal-none, refusal-some; answer-refused, buffer-kept, room-known, answer-octets, buffer-written.
+-- refusal-none, refusal-some; answer-refused, buffer-kept, room-known, answer-octets, buffer-written; own-answer, own-buffer.
 -- Assumes nothing.
 use Prim.Native.Nat.{ℕ, _≤_}
 use native.Mathlib.Omega.{arith}
-use mathlib.Core.Path.{_≡_, refl, sym, ap₂, _∙_}
+use mathlib.Core.Path.{_≡_, refl, sym, ap, _∙_}
 use mathlib.Core.Bool.{Bool, true, false, cond}
 use mathlib.Core.List.{List}
 use lib.Dec.{eqb, ltb}
@@ -57,29 +57,37 @@ module _ (refusal size n : ℕ) where
       go true false p q e = octets-not e
       go false u p q e = refl
 
-module _ (a : Answer) (out : List ℕ) (refusal size : ℕ) (r : refusal ≡ slipRefusal a) (s : size ≡ length (slipOf a))
+module _ (a : Answer) (out : List ℕ) (refusal size : ℕ) (s : size ≡ length (slipOf a))
     (answer : Output) (e : answer ≡ outputOf refusal (length out) size) where
-  known : answer ≡ outputOf (slipRefusal a) (length out) (length (slipOf a))
-  known = e ∙ ap₂ (λ (x y : ℕ). outputOf x (length out) y) r s
+  known : answer ≡ outputOf refusal (length out) (length (slipOf a))
+  known = e ∙ ap (λ (y : ℕ). outputOf refusal (length out) y) s
 
   module _ (k : ℕ) (f : answer ≡ Refused k) where
-    pub answer-refused : Refused k ≡ outputOf (slipRefusal a) (length out) (length (slipOf a))
+    pub answer-refused : Refused k ≡ outputOf refusal (length out) (length (slipOf a))
     answer-refused = sym f ∙ known
 
-    pub buffer-kept : out ≡ outputIn (slipRefusal a) out (slipOf a)
-    buffer-kept = refused-kept (slipRefusal a) (length out) (length (slipOf a)) out (slipOf a) refl refl k (sym known ∙ f)
+    pub buffer-kept : out ≡ outputIn refusal out (slipOf a)
+    buffer-kept = refused-kept refusal (length out) (length (slipOf a)) out (slipOf a) refl refl k (sym known ∙ f)
 
   module _ (m : ℕ) (f : answer ≡ Octets m) where
-    written : (slipRefusal a ≡ 0) × (length (slipOf a) ≤ length out)
-    written = octets-known (slipRefusal a) (length out) (length (slipOf a)) m (sym known ∙ f)
+    written : (refusal ≡ 0) × (length (slipOf a) ≤ length out)
+    written = octets-known refusal (length out) (length (slipOf a)) m (sym known ∙ f)
 
     -- there is room
     pub room-known : length (a .card .name) ≡ 20 → length (a .card .key) ≡ 20 → length (a .card .serial) ≡ 20 → sizeOf 20 (kindOf (a .verdict)) ≤ length out
     room-known x y z = rw (← (slip-length 20 a (λ c. record { name = x; key = y; serial = z }))) (written .1)
 
-    pub answer-octets : Octets m ≡ outputOf (slipRefusal a) (length out) (length (slipOf a))
+    pub answer-octets : Octets m ≡ outputOf refusal (length out) (length (slipOf a))
     answer-octets = sym f ∙ known
 
-    pub buffer-written : (o : List ℕ) → o ≡ splice out 0 (slipOf a) → o ≡ outputIn (slipRefusal a) out (slipOf a)
+    pub buffer-written : (o : List ℕ) → o ≡ splice out 0 (slipOf a) → o ≡ outputIn refusal out (slipOf a)
     unfolding outputIn
     buffer-written o p = p ∙ sym (rw (written .0) (put-in-room out 0 (slipOf a) (omega (arith, written .1))))
+
+-- with the answer's own refusal
+module _ (a : Answer) (out : List ℕ) (refusal : ℕ) (r : refusal ≡ slipRefusal a) where
+  pub own-answer : (w : Output) → w ≡ outputOf refusal (length out) (length (slipOf a)) → w ≡ outputOf (slipRefusal a) (length out) (length (slipOf a))
+  own-answer w e = e ∙ ap (λ (x : ℕ). outputOf x (length out) (length (slipOf a))) r
+
+  pub own-buffer : (o : List ℕ) → o ≡ outputIn refusal out (slipOf a) → o ≡ outputIn (slipRefusal a) out (slipOf a)
+  own-buffer o e = e ∙ ap (λ (x : ℕ). outputIn x out (slipOf a)) r

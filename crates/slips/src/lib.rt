@@ -6,4 +6,5 @@ mod readers; // a slip as an answer
 mod writers; // an answer as a slip
 
 pub use readers::read_slip;
+pub use writers::write_kept;
 pub use writers::write_slip;

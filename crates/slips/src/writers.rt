@@ -120,13 +120,12 @@ fn refusal_of(answer: Answer) -> u8
     17
 }
 
-// Writes the slip of an answer: 17 where it breaks the slip rules, then 18 where the buffer is too
-// short, and the buffer as it was.
-pub fn write_slip(answer: Answer, out: &mut [u8]) -> Output
-    ensures { λ r. ⌜ r ≡ outputOf (slipRefusal answer) (length (now (out .entry))) (length (slipOf answer)) ⌝ }
-    ensures { λ _. ⌜ now (out .exit) ≡ outputIn (slipRefusal answer) (now (out .entry)) (slipOf answer) ⌝ }
+// Writes the slip of an answer where there is no refusal yet: 18 where the buffer is too short, and the
+// buffer as it was.
+fn write_with(answer: Answer, refusal: u8, out: &mut [u8]) -> Output
+    ensures { λ r. ⌜ r ≡ outputOf refusal (length (now (out .entry))) (length (slipOf answer)) ⌝ }
+    ensures { λ _. ⌜ now (out .exit) ≡ outputIn refusal (now (out .entry)) (slipOf answer) ⌝ }
 {
-    let refusal = refusal_of(answer);
     let size = slip::slip_size(answer);
     let output = fields::room_for(refusal, out.len(), size);
     match output {
@@ -136,4 +135,23 @@ pub fn write_slip(answer: Answer, out: &mut [u8]) -> Output
             Output::Octets(n)
         }
     }
+}
+
+// Writes the slip of an answer: 17 where it breaks the slip rules, then 18 where the buffer is too
+// short, and the buffer as it was.
+pub fn write_slip(answer: Answer, out: &mut [u8]) -> Output
+    ensures { λ r. ⌜ r ≡ outputOf (slipRefusal answer) (length (now (out .entry))) (length (slipOf answer)) ⌝ }
+    ensures { λ _. ⌜ now (out .exit) ≡ outputIn (slipRefusal answer) (now (out .entry)) (slipOf answer) ⌝ }
+{
+    let refusal = refusal_of(answer);
+    write_with(answer, refusal, out)
+}
+
+// Writes the octets of an answer, the slip rules apart: for a caller that has proved that they are kept,
+// as of every answer of the check.
+pub fn write_kept(answer: Answer, out: &mut [u8]) -> Output
+    ensures { λ r. ⌜ r ≡ outputOf 0 (length (now (out .entry))) (length (slipOf answer)) ⌝ }
+    ensures { λ _. ⌜ now (out .exit) ≡ outputIn 0 (now (out .entry)) (slipOf answer) ⌝ }
+{
+    write_with(answer, 0, out)
 }

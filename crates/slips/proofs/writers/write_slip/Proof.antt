@@ -1,47 +1,20 @@
--- `slips::writers::write_slip` meets its contract: refused, or written.
--- Assumes nothing.
-use borrow.Author.Needs.{needs, length-unmapped}
-use Rattle.slips.proofs.WriteCases.{room-known, answer-refused, buffer-kept, answer-octets, buffer-written}
+-- `slips::writers::write_slip` meets its contract: with the refusal of the slip rules. Assumes nothing.
+use borrow.Author.Needs.{needs}
+use Rattle.slips.proofs.WriteCases.{own-answer, own-buffer}
 use Rattle.slips.proofs.writers.write_slip.Statement.{statement}
 use Rattle.slips.proofs.writers.write_slip.Tie as tie
 
 refusal-of-requires : tie.Need-refusal-of-requires
 refusal-of-requires c κs = search needs
 
-slip-size-requires : tie.Need-slip-size-requires
-slip-size-requires c κs = search needs
-
-room-for-requires : tie.Need-room-for-requires
-room-for-requires c κs = search needs
-
-enum-known-output : tie.Need-enum-known-output
-enum-known-output c = search needs
-
-enum-known-output-2 : tie.Need-enum-known-output-2
-enum-known-output-2 c = search needs
-
-put-slip-requires : tie.Need-put-slip-requires
-put-slip-requires c κs = search (length-unmapped, room-known)
-
-returns : tie.Need-returns
-returns c = (search answer-refused, search buffer-kept)
+write-with-requires : tie.Need-write-with-requires
+write-with-requires c κs = search needs
 
 same-length : tie.Need-same-length
 same-length c = search needs
 
-returns-2 : tie.Need-returns-2
-returns-2 c = (search answer-octets, search buffer-written)
+returns : tie.Need-returns
+returns c = (search own-answer, search own-buffer)
 
 pub write-slip-spec : {M : Type 1} → statement M
-write-slip-spec =
-    tie.close
-    (tie.spec
-    refusal-of-requires
-    slip-size-requires
-    room-for-requires
-    enum-known-output
-    enum-known-output-2
-    put-slip-requires
-    returns
-    same-length
-    returns-2)
+write-slip-spec = tie.close (tie.spec refusal-of-requires write-with-requires same-length returns)

@@ -1,0 +1,209 @@
+/*
+ * row: the whole row with real parts. A desk asks a real responder about a card and opens the folio
+ * only if the card is good.
+ *
+ *     row FOLDER DELEGATE ISSUER HELPER DOWN
+ *
+ * FOLDER has the certificates that `register` makes; the other words are ports on loopback: the
+ * responders that a delegate, the CA itself and a helper without the right usage sign for, and one
+ * where nobody listens. Ends with 0 exactly if every scene ended as it should.
+ */
+#include <inttypes.h>
+#include <stdio.h>
+#include <stdlib.h>
+#include <string.h>
+
+#include <openssl/pem.h>
+
+#include "facts.h"
+#include "http.h"
+#include "words.h"
+
+/* How far this desk lets an answer outlive its nextUpdate, in seconds. */
+#define TOLERANCE 300
+
+/* One octet more than the longest response: a longer one is then refused as such, and not cut. */
+#define ROOM (DESK_RESPONSE_MAX + 1)
+
+struct response {
+    uint8_t octets[ROOM];
+    size_t len;
+};
+
+static int scenes, wrong;
+
+static void scene(const char *what)
+{
+    scenes++;
+    printf("%sScene %d: %s\n", scenes == 1 ? "" : "\n", scenes, what);
+}
+
+/* Counts a scene's answer that is not the one it should have: a kind, and a refusal's number. */
+static void expect(const uint8_t *slip, uint8_t kind, uint8_t number)
+{
+    if (slip[0] == kind && (kind != DESK_REFUSAL || slip[1] == number))
+        return;
+    printf("  WRONG     this scene should have ended otherwise\n");
+    wrong++;
+}
+
+/* Writes the request for a card and posts it. Returns 0 where no response came. */
+static int ask(X509 *certificate, X509 *ca, int port, struct response *response)
+{
+    uint8_t card[DESK_CARD_LEN], request[DESK_REQUEST_MAX];
+    const char *why = "";
+    size_t len = 0, from;
+    long got;
+    response->len = 0;
+    if (card_of(certificate, ca, card))
+        len = desk_request(card, sizeof card, request, sizeof request);
+    if (len == 0) {
+        printf("  request   none: this certificate is no card of that CA\n");
+        return 0;
+    }
+    printf("  request   %zu octets, posted to 127.0.0.1:%d\n", len, port);
+    got = http_post(port, request, len, response->octets, ROOM, &why);
+    if (got < 0) {
+        printf("  response  none: %s\n", why);
+        return 0;
+    }
+    response->len = (size_t)got;
+    printf("  response  %zu octets", response->len);
+    if (desk_signed(response->octets, response->len, &from, &len) == 0)
+        printf(", of which %zu from %zu on are signed", len, from);
+    if (desk_signature(response->octets, response->len, &from, &len) == 0)
+        printf(", and %zu from %zu on are the signature", len, from);
+    printf("\n");
+    return 1;
+}
+
+/* Finds the facts about a response out, asks the check, and says what it answers. */
+static void judge(const struct response *response, X509 *certificate, X509 *ca, X509 *trusted,
+                  time_t now, uint8_t slip[DESK_SLIP_MAX])
+{
+    uint8_t card[DESK_CARD_LEN] = {0}, question[DESK_QUESTION_LEN];
+    struct facts facts;
+    card_of(certificate, ca, card);
+    facts_of(response->octets, response->len, ca, trusted, now, &facts);
+    say_signer(&facts);
+    question_of(card, (uint64_t)now, TOLERANCE, &facts, question);
+    memset(slip, 0, DESK_SLIP_MAX);
+    say_slip(slip, desk_check(question, sizeof question, response->octets, response->len, slip,
+                              DESK_SLIP_MAX));
+}
+
+/* A whole scene of the common kind: asks, and judges at once. */
+static void play(const char *what, X509 *certificate, X509 *ca, int port, uint8_t kind,
+                 uint8_t number)
+{
+    struct response response;
+    uint8_t slip[DESK_SLIP_MAX] = {0};
+    scene(what);
+    if (ask(certificate, ca, port, &response))
+        judge(&response, certificate, ca, NULL, time(NULL), slip);
+    expect(slip, kind, number);
+}
+
+/* The same octets at nextUpdate plus tolerance, and a second later. */
+static void play_stale(X509 *card, X509 *ca, int port)
+{
+    struct response kept;
+    uint8_t slip[DESK_SLIP_MAX] = {0};
+    scene("an answer is kept, and served again the next day");
+    if (ask(card, ca, port, &kept))
+        judge(&kept, card, ca, NULL, time(NULL), slip);
+    expect(slip, DESK_GOOD, 0);
+    time_t last = (time_t)number_at(slip + 70, 8) + TOLERANCE;
+    printf("  the next day, at nextUpdate plus %d seconds of tolerance:\n", TOLERANCE);
+    judge(&kept, card, ca, NULL, last, slip);
+    expect(slip, DESK_GOOD, 0);
+    printf("  one second later:\n");
+    judge(&kept, card, ca, NULL, last + 1, slip);
+    expect(slip, DESK_REFUSAL, 16);
+}
+
+/* One octet of the signed part is changed between the responder and the desk. */
+static void play_altered(X509 *card, X509 *ca, int port)
+{
+    struct response response;
+    uint8_t slip[DESK_SLIP_MAX] = {0};
+    size_t from, len;
+    scene("an answer is altered on its way");
+    if (ask(card, ca, port, &response) &&
+        desk_signed(response.octets, response.len, &from, &len) == 0) {
+        response.octets[from + len - 2] ^= 1; /* the last digit of nextUpdate */
+        judge(&response, card, ca, NULL, time(NULL), slip);
+    }
+    expect(slip, DESK_REFUSAL, 6);
+}
+
+/* A cache that looks for the serial alone hands out the answer for another CA's card. */
+static void play_other_issuer(X509 *card, X509 *ca, X509 *theirs, X509 *their_ca, X509 *trusted,
+                              int port)
+{
+    struct response response;
+    uint8_t slip[DESK_SLIP_MAX] = {0};
+    scene("the answer is for the same serial under another issuer");
+    if (ASN1_INTEGER_cmp(X509_get0_serialNumber(card), X509_get0_serialNumber(theirs)) != 0)
+        printf("  the two cards do not have the same serial\n");
+    else if (ask(card, ca, port, &response))
+        judge(&response, theirs, their_ca, trusted, time(NULL), slip);
+    expect(slip, DESK_REFUSAL, 10);
+}
+
+/* Nobody answers: there is nothing to check. */
+static void play_down(X509 *card, X509 *ca, int port)
+{
+    struct response response;
+    scene("the responder is down");
+    if (ask(card, ca, port, &response))
+        wrong++;
+    else
+        printf("  answer    none: there is no response to check\n  folio     stays closed\n");
+}
+
+static X509 *certificate_in(const char *folder, const char *name)
+{
+    char path[4096];
+    X509 *certificate = NULL;
+    snprintf(path, sizeof path, "%s/%s.pem", folder, name);
+    FILE *file = fopen(path, "r");
+    if (file != NULL) {
+        certificate = PEM_read_X509(file, NULL, NULL, NULL);
+        fclose(file);
+    }
+    if (certificate == NULL) {
+        fprintf(stderr, "row: no certificate in %s\n", path);
+        exit(2);
+    }
+    return certificate;
+}
+
+int main(int argc, char **argv)
+{
+    if (argc != 6) {
+        fprintf(stderr, "usage: row FOLDER DELEGATE ISSUER HELPER DOWN (four ports)\n");
+        return 2;
+    }
+    X509 *ca = certificate_in(argv[1], "house/ca"), *other_ca = certificate_in(argv[1], "branch/ca");
+    X509 *ada = certificate_in(argv[1], "house/ada"), *ben = certificate_in(argv[1], "house/ben");
+    X509 *cleo = certificate_in(argv[1], "house/cleo"), *dora = certificate_in(argv[1], "branch/dora");
+    X509 *delegate_certificate = certificate_in(argv[1], "house/delegate");
+    int delegate = atoi(argv[2]), issuer = atoi(argv[3]), helper = atoi(argv[4]), down = atoi(argv[5]);
+
+    play("a card in good standing", ada, ca, delegate, DESK_GOOD, 0);
+    play("the same card, and the CA itself signs", ada, ca, issuer, DESK_GOOD, 0);
+    play("a revoked card", ben, ca, delegate, DESK_REVOKED, 0);
+    play("a card that the register does not know", cleo, ca, delegate, DESK_UNKNOWN, 0);
+    play_stale(ada, ca, delegate);
+    play_altered(ada, ca, delegate);
+    play("the delegate has no OCSPSigning", ada, ca, helper, DESK_REFUSAL, 8);
+    play_other_issuer(ada, ca, dora, other_ca, delegate_certificate, delegate);
+    play_down(ada, ca, down);
+
+    printf("\n%d scenes, %s\n", scenes, wrong == 0 ? "each as it should end" : "NOT each as it should end");
+    X509 *all[] = {ca, other_ca, ada, ben, cleo, dora, delegate_certificate};
+    for (size_t i = 0; i < sizeof all / sizeof *all; i++)
+        X509_free(all[i]);
+    return wrong == 0 ? 0 : 1;
+}

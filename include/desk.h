@@ -1,0 +1,195 @@
+/*
+ * desk.h: what an OCSP response says about one card at one time, for programs in C.
+ *
+ *   desk_request    writes the request for a card
+ *   desk_signed     shows the part of a response that is signed
+ *   desk_signature  shows the signature
+ *   desk_check      says what a response means for a question
+ *   desk_slip       says whether octets are a slip
+ *   desk_entry      shows the entry at an ordinal
+ *
+ * Every function is proved to meet its contract: it ends with a defined answer for any octets and
+ * any lengths, it reads and writes nothing outside what it is lent, and what it answers is what the
+ * definitions in crates/ say. None of them hashes, checks a signature, opens a connection, looks at a
+ * clock, allocates, or keeps anything between two calls. Any number of threads may call them at once.
+ *
+ * What a caller of every function owes, since no function can test it:
+ *   - a pointer to octets is valid for as many octets as the length beside it says. It is not NULL,
+ *     also where that length is 0;
+ *   - what a function writes (`slip`, `out`, `from`, `len`) overlaps nothing else that it is lent;
+ *   - no other thread changes what is lent while the call lasts.
+ *
+ * Limits: a response of more than 16,384 octets is refused before it is read. Stack: under 3 KiB, seen at the deepest response (free elements 16 deep); leave 8 KiB.
+ *
+ * To link (x86-64 Linux): make the archive with `rt staticlib desk_c`, then
+ *     cc -I include program.c target/staticlib/libdesk_c.a
+ * The archive needs nothing but the C library.
+ *
+ * docs/INTEGRATORS.md says which facts a caller has to find out, and what to do with each answer;
+ * examples/row is a whole program with real parts.
+ */
+#ifndef DESK_H
+#define DESK_H
+
+#include <stddef.h>
+#include <stdint.h>
+
+#ifdef __cplusplus
+extern "C" {
+#endif
+
+/* Sizes, in octets. */
+#define DESK_CARD_LEN 61         /* a card */
+#define DESK_QUESTION_LEN 353    /* a question */
+#define DESK_NAME_MAX 256        /* the Name in a question, at most */
+#define DESK_RESPONSE_MAX 16384  /* a response, at most */
+#define DESK_SLIP_MAX 87         /* a slip, at most: a buffer of this size is never too short */
+#define DESK_REQUEST_MAX 87      /* a request, at most: a buffer of this size is never too short */
+
+/* Kinds: the first octet of a slip, and of a question. */
+#define DESK_GOOD 0x01
+#define DESK_REVOKED 0x02
+#define DESK_UNKNOWN 0x03
+#define DESK_REFUSAL 0x04
+#define DESK_QUESTION 0x51
+
+/* Signature verdicts. */
+#define DESK_NOT_TRIED 0
+#define DESK_VALID 1
+#define DESK_INVALID 2
+
+/* The signer's roles. */
+#define DESK_ISSUER 1    /* the CA that issued the card */
+#define DESK_DELEGATE 2  /* a delegate of that CA: needs all three marks */
+#define DESK_TRUSTED 3   /* trusted locally */
+
+/* Marks of a delegate's certificate, added together. Ignored for other roles. */
+#define DESK_BY_ISSUER 1      /* issued directly by that CA */
+#define DESK_OCSP_SIGNING 2   /* has the OCSPSigning usage */
+#define DESK_VALID_NOW 4      /* valid now */
+
+/* A slip's reason where the response gives none. */
+#define DESK_NO_REASON 0xFF
+
+/*
+ * Layouts. Numbers have their high octet first. Times are seconds since 1970, at most
+ * 253,402,300,799 (the last second of 9999).
+ *
+ * Card, 61 octets
+ *     0  20  SHA-1 of the issuer's Name as DER
+ *    20  20  SHA-1 of the issuer's public key (the content of the BIT STRING, without the 00)
+ *    40   1  length of the serial, 1 to 20
+ *    41  20  serial: the content of the INTEGER, filled up with zeros
+ *   A serial has its first bit clear and is minimal: a leading 00 only where it is alone or the next
+ *   octet is 80 hex or more.
+ *
+ * Question, 353 octets
+ *     0   1  kind, 51 hex
+ *     1  61  card
+ *    62   8  now
+ *    70   2  tolerance in seconds, at most 3,600
+ *    72   1  verdict on the signature: 0 not tried, 1 valid, 2 invalid
+ *    73   1  role of the signer: 1 the issuing CA, 2 its delegate, 3 trusted locally
+ *    74   1  marks of a delegate: 1, 2 and 4 added together
+ *    75  20  SHA-1 of the signer's public key
+ *    95   2  length of the signer's Name, at most 256
+ *    97 256  signer's Name as DER, filled up with zeros
+ *
+ * Slip, 78 octets (good, unknown), 87 (revoked) or 3 (refusal)
+ *     0   1  kind: 01 good, 02 revoked, 03 unknown, 04 refusal
+ *   good, unknown and revoked:
+ *     1  61  card
+ *    62   8  thisUpdate
+ *    70   8  nextUpdate
+ *   revoked also:
+ *    78   8  revocationTime
+ *    86   1  reason, 0 to 10 but not 7, or FF where there is none
+ *   refusal:
+ *     1   1  number
+ *     2   1  status of the response, 1, 2, 3, 5 or 6, with number 4; else 0
+ *
+ * Numbers of refusals. A refusal is never "revoked": it says that there is no answer, and why.
+ *     1  question out of range
+ *     2  response longer than 16,384 octets
+ *     3  octets do not fit the layout of a response, its limits included
+ *     4  the responder gave no answer; its status goes with the number: 1 malformed request,
+ *        2 internal error, 3 try later, 5 signature required, 6 unauthorized
+ *     5  response type is not the basic one
+ *     6  verdict is not 1
+ *     7  responder id is not the signer's
+ *     8  role is 2 and one of the three marks is missing
+ *     9  a critical response extension is not understood
+ *    10  no entry is for this card
+ *    11  two or more entries are for this card
+ *    12  a critical extension of that entry is not understood
+ *    13  that entry has no nextUpdate
+ *    14  nextUpdate is before thisUpdate
+ *    15  thisUpdate is after now
+ *    16  now is after nextUpdate plus tolerance
+ *    17  octets are no slip
+ * A check gives the first of 1 to 16 that applies.
+ */
+
+/*
+ * Writes the request for a card: one CertID with SHA-1, no extensions.
+ *
+ * Returns the number of octets written at the start of `out`: 67 plus the serial's length, so 68 to
+ * 87. Returns 0 and leaves `out` as it was where the card does not have 61 octets, its serial breaks
+ * the rule or its fill is not zeros, or `out` is too short. What lies behind the octets written is
+ * as it was.
+ */
+size_t desk_request(const uint8_t *card, size_t clen, uint8_t *out, size_t outlen);
+
+/*
+ * Shows the signed part of a response, header included: the octets over which its signature is made.
+ *
+ * Returns 0 and the place of the part: it is the `*len` octets at `response + *from`. They are the
+ * caller's own octets, nothing is copied. Returns the number of a refusal, 2 to 5, and sets `*from`
+ * and `*len` to 0.
+ *
+ * Returning 0 says that the whole response fits the layout. So the signature's AlgorithmIdentifier
+ * begins where the signed part ends.
+ */
+size_t desk_signed(const uint8_t *response, size_t rlen, size_t *from, size_t *len);
+
+/*
+ * Shows the signature: the content of its BIT STRING without the leading 00. Otherwise as
+ * desk_signed. Where the response holds certificates, they begin where the signature ends: A0
+ * holding a SEQUENCE of 0 to 8 certificates. Else the response ends there.
+ */
+size_t desk_signature(const uint8_t *response, size_t rlen, size_t *from, size_t *len);
+
+/*
+ * Says what a response means for a question.
+ *
+ * Writes a slip at the start of `slip` and returns its length: 78, 87 or 3. Returns 0 and leaves
+ * `slip` as it was where it is too short for the slip; with DESK_SLIP_MAX octets it never is. What
+ * lies behind the slip is as it was.
+ *
+ * A question that does not have 353 octets, has another kind, a value out of its range or a fill
+ * that is not zeros gives refusal 1: a slip like every other.
+ */
+size_t desk_check(const uint8_t *question, size_t qlen, const uint8_t *response, size_t rlen,
+                  uint8_t *slip, size_t sliplen);
+
+/*
+ * Says whether octets are a slip: 0, or 17 where they break the slip rules (unknown kind, another
+ * length than the kind's, a card, time, reason, number or status out of its range, thisUpdate after
+ * nextUpdate).
+ */
+size_t desk_slip(const uint8_t *slip, size_t sliplen);
+
+/*
+ * Shows the entry at an ordinal, counted from 0, header included.
+ *
+ * Returns 0 and its place, as desk_signed does. Past the last entry it returns 0 and an empty part,
+ * `*from` and `*len` both 0; no entry is empty. Returns the number of a refusal, 2 to 5, and an empty
+ * part.
+ */
+size_t desk_entry(const uint8_t *response, size_t rlen, size_t ordinal, size_t *from, size_t *len);
+
+#ifdef __cplusplus
+}
+#endif
+
+#endif
