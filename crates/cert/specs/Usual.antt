@@ -1,5 +1,5 @@
 -- The algorithm identifier of nearly every CertID: SHA-1, parameters 05 00.
--- usual, usualHead: its value and its octets; startsUsual; usual-cut, usual-same: whether a list starts
+-- usual, usualHead: its value and its octets; startsUsual; usual-other, usual-cut, usual-same: whether a list starts
 -- with them, as code tests it; usual-read: a list that starts with them reads as this value.
 -- Assumes nothing.
 use Prim.Native.Nat.{ℕ, _-_, _^_, _<_}
@@ -9,7 +9,8 @@ use mathlib.Core.Bool.{Bool, true, false}
 use mathlib.Core.List.{List, [], _∷_, _++_}
 use mathlib.Core.Option.{some}
 use lib.Dec.{lit<}
-use lib.ListN.{length, take, drop, length-take, take-append-drop}
+use lib.ListN.{length, getD, take, drop, length-take, take-append-drop}
+use lib.Seq.{getD-take}
 use Rattle.octets.specs.Same.{sameOf}
 use Rattle.octets.specs.SameLaws.{same-true, same-short}
 use Rattle.element.specs.Tag.{tagOk}
@@ -55,6 +56,17 @@ usual-dec : (r : List ℕ) → algorithmIdentifier .dec (usualHead ++ r) ≡ got
 usual-dec r = rw usual-form at (algorithmIdentifier .complete usual r (algorithm-limits usual .1 usual-fits) usual-small)
 
 module _ (s : List ℕ) where
+  -- another length octet
+  pub usual-other : (getD s 1 0 ≡ 9 → ⊥) → false ≡ startsUsual s
+  unfolding startsUsual
+  usual-other h = go (sameOf (take 11 s) usualHead) refl
+    where
+      go : (b : Bool) → sameOf (take 11 s) usualHead ≡ b → false ≡ b
+      go false e = refl
+      go true e =
+          let q : getD (take 11 s) 1 0 ≡ 9 = ap (λ (t : List ℕ). getD t 1 0) (same-true (take 11 s) usualHead e) in
+          absurd (h (sym (getD-take 11 s 1 0 (lit< tt)) ∙ q))
+
   pub usual-cut : length s < 11 → false ≡ startsUsual s
   unfolding startsUsual
   usual-cut h =

@@ -58,6 +58,9 @@ fn is_usual(s: &[u8]) -> bool
     if s.len() < 11 {
         return false;
     }
+    if s[1] != 0x09 {
+        return false;
+    }
     octets::same(&s[0..11], b"\x30\x09\x06\x05\x2b\x0e\x03\x02\x1a\x05\x00")
 }
 
