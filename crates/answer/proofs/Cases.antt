@@ -1,5 +1,5 @@
 -- What the code knows at each return and in each turn, and what follows there.
--- one-zero, one-other; zero-next, zero-end; inside, counted; field-long, field-serial, field-fill; card-name, card-key,
+-- one-zero, one-other; zero-next, zero-end; field-long, field-short, counted, field-serial, field-fill; card-name, card-key,
 -- card-serial, card-size.
 -- Assumes nothing.
 use Prim.Native.Nat.{ℕ, suc, _+_, _-_, _<_, _≤_}
@@ -31,6 +31,10 @@ one-first true false r = refl
 one-first false true r = refl
 one-first false false r = refl
 
+whole : (y : Bool) → cond y true false ≡ y
+whole true = refl
+whole false = refl
+
 module _ (s : List ℕ) (i : ℕ) (z : Bool) (p : allZero s ≡ cond z (allZero (drop i s)) false) where
   -- one more octet
   pub zero-next : i < length s → (w : Bool) → w ≡ cond (eqb (getD s i 0) 0) z false → allZero s ≡ cond w (allZero (drop (i + 1) s)) false
@@ -42,19 +46,8 @@ module _ (s : List ℕ) (i : ℕ) (z : Bool) (p : allZero s ≡ cond z (allZero 
   pub zero-end : length s ≤ i → z ≡ allZero s
   unfolding allZero
   zero-end h = sym (p ∙ rw (drop-of-length-le s h) (whole z))
-    where
-      whole : (y : Bool) → cond y true false ≡ y
-      whole true = refl
-      whole false = refl
 
--- ---- a serial in its field, of which the code knows the length
-
-module _ (field : List ℕ) (n : ℕ) (l : length field ≡ n) (size : ℕ) (h : size ≤ n) where
-  pub inside : size ≤ length field
-  inside = omega arith
-
-  pub counted : size ≡ length (take size field)
-  counted = sym (length-take-le size field inside)
+-- ---- a serial in its field
 
 module _ (size : ℕ) (field : List ℕ) where
   -- a serial of more than twenty octets
@@ -62,18 +55,27 @@ module _ (size : ℕ) (field : List ℕ) where
   unfolding fieldOk
   field-long h = sym (rw (lt-leb size 20 h))
 
-  module _ (h : size ≤ 20) (r : Bool) (p : r ≡ serialOk (take size field)) where
-    -- the serial rule is broken
-    pub field-serial : not r ≡ true → false ≡ fieldOk size field
-    unfolding fieldOk
-    field-serial t = sym (rw (le-leb size 20 h, ← p, not-true r t))
+  module _ (h : size ≤ 20) where
+    -- a field that is not longer than the serial
+    pub field-short : length field < size → (r : Bool) → r ≡ serialOk field → r ≡ fieldOk size field
+    unfolding fieldOk allZero
+    field-short l r p = sym (rw (le-leb size 20 h, take-all size field (omega arith), drop-of-length-le field {i = size} (omega arith), ← p) (whole r))
 
-    -- it is kept: the fill decides
-    pub field-fill : not r ≡ false → length field ≡ 20 → (z : Bool) → z ≡ allZero (take (20 - size) (drop size field)) → z ≡ fieldOk size field
-    unfolding fieldOk
-    field-fill t l z e =
-        let whole : take (20 - size) (drop size field) ≡ drop size field = take-all (20 - size) (drop size field) (simp length-drop (omega arith)) in
-        sym (rw (le-leb size 20 h, ← p, not-false r t) (sym (e ∙ ap allZero whole)))
+    pub counted : size ≤ length field → size ≡ length (take size field)
+    counted l = sym (length-take-le size field l)
+
+    module _ (r : Bool) (p : r ≡ serialOk (take size field)) where
+      -- the serial rule is broken
+      pub field-serial : not r ≡ true → false ≡ fieldOk size field
+      unfolding fieldOk
+      field-serial t = sym (rw (le-leb size 20 h, ← p, not-true r t))
+
+      -- it is kept: the fill decides
+      pub field-fill : not r ≡ false → (z : Bool) → z ≡ allZero (take (length field - size) (drop size field)) → z ≡ fieldOk size field
+      unfolding fieldOk
+      field-fill t z e =
+          let all : take (length field - size) (drop size field) ≡ drop size field = take-all (length field - size) (drop size field) (omega (arith, length-drop size field)) in
+          sym (rw (le-leb size 20 h, ← p, not-false r t) (sym (e ∙ ap allZero all)))
 
 -- ---- two cards, field by field
 

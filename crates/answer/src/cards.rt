@@ -3,7 +3,7 @@ use crate::Card;
 ghost use mathlib.Core.Path.{_≡_};
 ghost use mathlib.Core.Bool.{false, cond};
 ghost use lib.Dec.{eqb};
-ghost use Rattle.answer.specs.Card.{allZero, cardOk, emptyCard, sameCard};
+ghost use Rattle.answer.specs.Card.{allZero, fieldOk, cardOk, emptyCard, sameCard};
 
 // The card that a refusal hands out.
 pub fn empty_card() -> Card
@@ -27,9 +27,9 @@ fn still_zero(zero: bool, octet: u8) -> bool
     false
 }
 
-// Whether all of these octets are zeros, as a fill must be. The loop looks at all of them: so the
-// compiler takes many at once.
-pub fn all_zero(s: &[u8]) -> bool
+// Whether all of these octets are zeros. The loop looks at all of them: so the compiler takes many at
+// once.
+fn each_zero(s: &[u8]) -> bool
     ensures { λ r. ⌜ r ≡ allZero (now (s .entry)) ⌝ }
 {
     let mut zero = true;
@@ -41,19 +41,49 @@ pub fn all_zero(s: &[u8]) -> bool
     zero
 }
 
+// Whether all of these octets are zeros, as a fill must be: by blocks of 64 octets, the last of which
+// may begin in the one before it.
+pub fn all_zero(s: &[u8]) -> bool
+    ensures { λ r. ⌜ r ≡ allZero (now (s .entry)) ⌝ }
+{
+    if s.len() < 64 {
+        return each_zero(s);
+    }
+    let last = s.len() - 64;
+    let mut i = 0;
+    while i < last {
+        let end = i + 64;
+        if !each_zero(&s[i..end]) {
+            return false;
+        }
+        i += 64;
+    }
+    each_zero(&s[last..])
+}
+
+// Whether a serial of this size stands in its field: at most 20 octets, by the serial rule, and zeros
+// after it.
+pub fn field_fits(size: usize, field: &[u8]) -> bool
+    ensures { λ r. ⌜ r ≡ fieldOk size (now (field .entry)) ⌝ }
+{
+    if 20 < size {
+        return false;
+    }
+    if field.len() < size {
+        return content::serial_fits(field);
+    }
+    if !content::serial_fits(&field[..size]) {
+        return false;
+    }
+    all_zero(&field[size..])
+}
+
 // Whether the card's serial keeps the serial rule and its fill is zeros.
 pub fn card_fits(card: Card) -> bool
     ensures { λ r. ⌜ r ≡ cardOk card ⌝ }
 {
-    let size = card.size;
-    if 20 < size {
-        return false;
-    }
     let serial = card.serial;
-    if !content::serial_fits(&serial[..size]) {
-        return false;
-    }
-    all_zero(&serial[size..])
+    field_fits(card.size, &serial)
 }
 
 // Whether two cards are one: both hashes, the serial's field and its size.

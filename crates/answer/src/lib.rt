@@ -10,6 +10,7 @@ mod verdicts; // the answer of a refusal
 pub use cards::all_zero;
 pub use cards::card_fits;
 pub use cards::empty_card;
+pub use cards::field_fits;
 pub use cards::same_card;
 pub use verdicts::refuse;
 

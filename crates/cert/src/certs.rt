@@ -1,9 +1,7 @@
 // CertIDs.
-use crate::algorithms;
-use crate::judged;
 use codec::Fit;
 use codec::Step;
-use words::Spot;
+use spots::Spot;
 ghost use mathlib.Core.Path.{_≡_};
 ghost use Rattle.codec.specs.Sequence.{field, only};
 ghost use Rattle.codec.specs.Views.{stepOf, fitOf};
@@ -14,21 +12,21 @@ ghost use Rattle.layout.specs.Format.{certBody, certId};
 fn serial_alone(s: &[u8]) -> Fit
     ensures { λ r. ⌜ r ≡ fitOf (only serial .dec (now (s .entry))) ⌝ }
 {
-    let step = words::read_serial(s);
-    judged::filled(step, s.len())
+    let step = numbers::read_serial(s);
+    sequence::filled(step, s.len())
 }
 
 // The issuer's key hash, then the serial.
 fn key_and_serial(s: &[u8]) -> Fit
     ensures { λ r. ⌜ r ≡ fitOf (field hash (only serial) .dec (now (s .entry))) ⌝ }
 {
-    let key = words::read_string(s, 1, 64);
+    let key = spots::read_string(s, 1, 64);
     match key {
         Spot::Wrong(p) => Fit::Breaks(p),
         Spot::At { start, len } => {
             let end = start + len;
             let rest = serial_alone(&s[end..]);
-            judged::after(end, s.len(), rest)
+            sequence::after(end, s.len(), rest)
         }
     }
 }
@@ -37,13 +35,13 @@ fn key_and_serial(s: &[u8]) -> Fit
 fn hashes_and_serial(s: &[u8]) -> Fit
     ensures { λ r. ⌜ r ≡ fitOf (field hash (field hash (only serial)) .dec (now (s .entry))) ⌝ }
 {
-    let name = words::read_string(s, 1, 64);
+    let name = spots::read_string(s, 1, 64);
     match name {
         Spot::Wrong(p) => Fit::Breaks(p),
         Spot::At { start, len } => {
             let end = start + len;
             let rest = key_and_serial(&s[end..]);
-            judged::after(end, s.len(), rest)
+            sequence::after(end, s.len(), rest)
         }
     }
 }
@@ -52,12 +50,12 @@ fn hashes_and_serial(s: &[u8]) -> Fit
 fn cert_body(s: &[u8]) -> Fit
     ensures { λ r. ⌜ r ≡ fitOf (certBody .dec (now (s .entry))) ⌝ }
 {
-    let algorithm = algorithms::read_algorithm(s);
+    let algorithm = algorithm::read_algorithm(s);
     match algorithm {
         Step::Bad(p) => Fit::Breaks(p),
         Step::Taken(n) => {
             let rest = hashes_and_serial(&s[n..]);
-            judged::after(n, s.len(), rest)
+            sequence::after(n, s.len(), rest)
         }
     }
 }
@@ -66,13 +64,13 @@ fn cert_body(s: &[u8]) -> Fit
 pub fn read_cert(s: &[u8]) -> Step
     ensures { λ r. ⌜ r ≡ stepOf (certId .dec (now (s .entry))) ⌝ }
 {
-    let spot = words::expect(s, 0x30);
+    let spot = spots::expect(s, 0x30);
     match spot {
         Spot::Wrong(p) => Step::Bad(p),
         Spot::At { start, len } => {
             let end = start + len;
             let body = cert_body(&s[start..end]);
-            judged::closed(start, end, body)
+            sequence::closed(start, end, body)
         }
     }
 }

@@ -63,7 +63,7 @@ fn read_all(space: &mut [u8]) -> Input
 // Writes the line for an input.
 fn say_line(input: &[u8]) {
     let mut line = [0u8; 175];
-    let n = deskcase::line_for(input, &mut line);
+    let n = deskline::line_for(input, &mut line);
     io::write_all(STDOUT_FILENO, &line[..n]);
 }
 

@@ -10,14 +10,15 @@ use mathlib.Core.List.{List}
 use lib.ListN.{length}
 use borrow.Author.Tests.{eq-eqb, ne-eqb}
 use Rattle.response.specs.Parts.{judgedOf}
-use Rattle.response.specs.Shown.{refusalOf, entryOf}
+use Rattle.response.specs.Refusals.{refusalOf}
+use Rattle.show.specs.Shown.{entryOf}
 use Rattle.response.specs.declared.Refusal.{Refusal}
 use Rattle.response.specs.declared.Span.{Span}
 use Rattle.response.specs.declared.Parts.{Parts}
 use Rattle.response.specs.declared.Judged.{Judged}
 use Rattle.response.specs.declared.Judged.the-variants.{Basic, TooLong, Unfit, Failed, OtherType}
-use Rattle.response.specs.declared.Entry.{Entry}
-use Rattle.response.specs.declared.Entry.the-variants as entry
+use Rattle.show.specs.declared.Entry.{Entry}
+use Rattle.show.specs.declared.Entry.the-variants as entry
 use Rattle.answer.specs.declared.Answer.{Answer}
 use Rattle.answer.specs.declared.Card.{Card}
 use Rattle.answer.specs.declared.Reason.{Reason}

@@ -7,8 +7,8 @@ use Rattle.response.specs.declared.Span.{Span}
 use Rattle.response.specs.declared.Parts.{Parts}
 use Rattle.response.specs.declared.Judged.{Judged}
 use Rattle.response.specs.declared.Judged.the-variants.{Basic, TooLong, Unfit, Failed, OtherType}
-use Rattle.response.specs.declared.Entry.{Entry}
-use Rattle.response.specs.declared.Entry.the-variants.{At, End, Refused}
+use Rattle.show.specs.declared.Entry.{Entry}
+use Rattle.show.specs.declared.Entry.the-variants.{At, End, Refused}
 
 -- an empty part
 abbrev pub empty : Span

@@ -7,7 +7,7 @@ ghost use lib.Dec.{ltb};
 ghost use lib.ListN.{length};
 ghost use Rattle.octets.specs.Buffer.{putIn};
 ghost use Rattle.slip.specs.Slip.{slipOf, readOf};
-ghost use Rattle.deskcase.specs.Asked.{asked};
+ghost use Rattle.question.specs.Asked.{asked};
 ghost use Rattle.desk_c.specs.Papers.{slipNumber, sizeOr0, requestSize, requestIn};
 
 // Writes the slip of the answer to a question of 353 octets: its length, or 0 where the buffer is too
@@ -25,7 +25,7 @@ pub extern "C" fn desk_check(question: &[u8], response: &[u8], slip: &mut [u8]) 
 pub extern "C" fn desk_slip(slip: &[u8]) -> usize
     ensures { λ r. ⌜ r ≡ slipNumber (readOf 20 (now (slip .entry)) .verdict) ⌝ }
 {
-    let answer = slips::read_slip(slip);
+    let answer = slip_read::read_slip(slip);
     let verdict = answer.verdict;
     match verdict {
         Verdict::Good { .. } => 0,

@@ -1,10 +1,11 @@
 // Parts of a response: where they are in the caller's own octets.
-use response::Entry;
 use response::Judged;
 use response::Span;
+use show::Entry;
 ghost use mathlib.Core.Path.{_≡_};
 ghost use Rattle.response.specs.Parts.{judgedOf};
-ghost use Rattle.response.specs.Shown.{refusalOf, entryOf};
+ghost use Rattle.response.specs.Refusals.{refusalOf};
+ghost use Rattle.show.specs.Shown.{entryOf};
 ghost use Rattle.desk_c.specs.Places.{signedIn, signatureIn, entryNumber, entrySpan};
 
 // Where the signed part is, by what the response is.
@@ -98,7 +99,7 @@ pub extern "C" fn desk_entry(
     ensures { λ _. ⌜ now (from .exit) ≡ entrySpan (entryOf (now (response .entry)) ordinal) .start ⌝ }
     ensures { λ _. ⌜ now (len .exit) ≡ entrySpan (entryOf (now (response .entry)) ordinal) .len ⌝ }
 {
-    let entry = response::entry_at(response, ordinal);
+    let entry = show::entry_at(response, ordinal);
     let span = entry_span(entry);
     *from = span.start;
     *len = span.len;

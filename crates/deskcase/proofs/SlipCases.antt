@@ -1,28 +1,33 @@
--- What the code knows at each return of the slip's writer and the line's, and the contract there.
--- slip-buffer, slip-written, slip-none; end-before, end-at, end-inside, end-counted, desk-count, desk-buffer; line-inside,
--- line-counted, line-count, line-buffer.
+-- What the code knows at each return of the slip's writer, and the contract there.
+-- slip-buffer, slip-written, slip-none; refusal-buffer, refusal-none, refusal-written; slip-stands; broken-count, broken-buffer;
+-- error-count, error-buffer.
 -- Assumes nothing.
-use Prim.Native.Nat.{ℕ, _+_, _-_, _≤_, _<_}
-use native.Mathlib.Nat.{zero-add}
+use Prim.Native.Nat.{ℕ, _≤_, _<_}
 use native.Mathlib.Omega.{arith}
-use mathlib.Core.Path.{_≡_, refl, sym, ap, ap₂, _∙_}
-use mathlib.Core.Bool.{Bool, true, false, cond}
-use mathlib.Core.List.{List}
+use mathlib.Core.Path.{_≡_, refl, sym, ap, _∙_}
+use mathlib.Core.Bool.{Bool, true, false, cond, not}
+use mathlib.Core.List.{List, [], _∷_, _++_}
 use lib.Dec.{ltb}
-use lib.ListN.{length, take, drop, replicate, length-drop}
-use lib.Seq.{length-take-le, take-all, take-at}
-use borrow.Author.Tests.{le-ltb}
+use lib.ListN.{length, getD}
+use borrow.Author.Tests.{lt-ltb, le-ltb, not-true, not-false}
+use mir.Syntax.{w8}
+use mir.Val.{Fits}
+use Rattle.octets.specs.OctetsLaws.{octets-from}
+use Rattle.octets.specs.Number.{valueOf, octetsOf}
+use Rattle.octets.specs.NumberLaws.{octets-value}
 use Rattle.octets.specs.Buffer.{putIn}
-use Rattle.octets.specs.BufferLaws.{put-in-room, put-in-length}
+use Rattle.answer.specs.Verdict.{refused}
 use Rattle.answer.specs.declared.Answer.{Answer}
 use Rattle.fields.specs.declared.Output.{Output}
 use Rattle.fields.specs.declared.Output.the-variants.{Octets as Wrote, Refused}
 use Rattle.fields.specs.Output.{outputOf, outputIn}
+use Rattle.response.specs.Parts.{judgedOf}
+use Rattle.response.specs.Refusals.{refusalOf}
 use Rattle.slip.specs.Slip.{slipOf}
-use Rattle.hex.specs.Hex.{hexLine}
-use Rattle.deskcase.specs.Asked.{asked, deskOf}
-use Rattle.deskcase.specs.Line.{questionEnd, lineOf}
-use Rattle.deskcase.specs.LineLaws.{line-is, end-short, end-long, end-least, cut-question, cut-response, desk-most}
+use Rattle.slip.specs.Examples.{shown}
+use Rattle.question.specs.Asked.{asked}
+use Rattle.question.specs.Stands.{standsOk}
+use Rattle.question.specs.StandsLaws.{stands-broken, error-answer}
 
 -- how many octets are written in a buffer of this size, 0 where there is no room
 abbrev Count : ℕ → ℕ → ℕ
@@ -63,59 +68,59 @@ module _ (q r : List ℕ) (a : Answer) (e : a ≡ asked q r) where
     pub slip-none : (m : ℕ) → w ≡ Refused m → 0 ≡ cond (ltb (length out) (length (slipOf (asked q r)))) 0 (length (slipOf (asked q r)))
     slip-none m i = count-none m (length out) (length (slipOf (asked q r))) (sym i ∙ same)
 
--- ---- the input, cut
+-- ---- the slip of a refusal
 
-pub end-before : (s : List ℕ) → length s < 353 → length s ≡ questionEnd (length s)
-end-before s h = sym (end-short (length s) h)
+-- a number of one octet is that octet
+one-octet : (n : ℕ) → n < 256 → octetsOf 1 n ≡ n ∷ []
+unfolding valueOf
+one-octet n h =
+    let v : valueOf (n ∷ []) ≡ n = omega arith in
+    ap (octetsOf 1) (sym v) ∙ octets-value (n ∷ []) (h, tt)
 
-pub end-at : (s : List ℕ) → 353 ≤ length s → 353 ≡ questionEnd (length s)
-end-at s h = sym (end-long (length s) h)
+refusal-form : (n status : ℕ) → slipOf (refused n status) ≡ 4 ∷ (octetsOf 1 n ++ (octetsOf 1 status ++ []))
+unfolding refused shown
+refusal-form n status = refl
 
-module _ (s : List ℕ) (end : ℕ) (e : end ≡ questionEnd (length s)) where
-  pub end-inside : end ≤ length s
-  end-inside = omega (arith, end-least s)
+module _ (n status : ℕ) (f : Fits w8 n) (g : Fits w8 status) where
+  refusal-octets : slipOf (refused n status) ≡ 4 ∷ n ∷ status ∷ []
+  refusal-octets = refusal-form n status ∙ rw (one-octet n (f .fits), one-octet status (g .fits))
 
-  pub end-counted : end ≡ length (take end s)
-  end-counted = sym (length-take-le end s end-inside)
+  pub refusal-buffer : (out o : List ℕ) → o ≡ putIn out 0 (4 ∷ n ∷ status ∷ []) → o ≡ putIn out 0 (slipOf (refused n status))
+  refusal-buffer out o e = e ∙ rw refusal-octets
 
-  -- the answer to the two parts is the input's
-  parts : asked (take end s) (take (length s - end) (drop end s)) ≡ deskOf s
-  unfolding deskOf
-  parts =
-      ap₂
-      asked
-      (ap (λ (k : ℕ). take k s) e ∙ cut-question s)
-      (take-all (length s - end) (drop end s) (omega (arith, length-drop end s)) ∙ ap (λ (k : ℕ). drop k s) e ∙ cut-response s)
+  pub refusal-none : (size : ℕ) → size < 3 → 0 ≡ cond (ltb size (length (slipOf (refused n status)))) 0 (length (slipOf (refused n status)))
+  refusal-none size h = rw (refusal-octets, lt-ltb size 3 h)
 
-  pub desk-count : (k n : ℕ)
-      → n ≡ cond (ltb k (length (slipOf (asked (take end s) (take (length s - end) (drop end s)))))) 0 (length (slipOf (asked (take end s) (take (length s - end) (drop end s)))))
-      → n ≡ cond (ltb k (length (slipOf (deskOf s)))) 0 (length (slipOf (deskOf s)))
-  desk-count k n x = x ∙ rw parts
+  pub refusal-written : (size : ℕ) → 3 ≤ size → 3 ≡ cond (ltb size (length (slipOf (refused n status)))) 0 (length (slipOf (refused n status)))
+  refusal-written size h = rw (refusal-octets, le-ltb size 3 h)
 
-  pub desk-buffer : (out o : List ℕ) → o ≡ putIn out 0 (slipOf (asked (take end s) (take (length s - end) (drop end s)))) → o ≡ putIn out 0 (slipOf (deskOf s))
-  desk-buffer out o x = x ∙ rw parts
+-- ---- an answer that is a refusal
 
--- ---- the line
+module _ (q r : List ℕ) (z : Bool) (e : z ≡ standsOk q) where
+  pub slip-stands : not z ≡ false → standsOk q ≡ true
+  slip-stands h = sym e ∙ not-false z h
 
-module _ (s : List ℕ) (n : ℕ) (e : n ≡ cond (ltb 87 (length (slipOf (deskOf s)))) 0 (length (slipOf (deskOf s)))) where
-  size-is : n ≡ length (slipOf (deskOf s))
-  size-is = e ∙ rw (le-ltb 87 (length (slipOf (deskOf s))) (desk-most s))
+  -- of a question that does not stand
+  module _ (h : not z ≡ true) where
+    broken : refused 1 0 ≡ asked q r
+    broken = sym (stands-broken q r (sym e ∙ not-true z h))
 
-  module _ (o : List ℕ) (f : o ≡ putIn (replicate 87 0) 0 (slipOf (deskOf s))) where
-    pub line-inside : n ≤ length o
-    line-inside = omega (arith, size-is, desk-most s, ap length f, put-in-length (replicate 87 0) 0 (slipOf (deskOf s)))
+    pub broken-count : (size k : ℕ) → k ≡ cond (ltb size (length (slipOf (refused 1 0)))) 0 (length (slipOf (refused 1 0)))
+        → k ≡ cond (ltb size (length (slipOf (asked q r)))) 0 (length (slipOf (asked q r)))
+    broken-count size k i = i ∙ rw broken
 
-    pub line-counted : n ≡ length (take n o)
-    line-counted = sym (length-take-le n o line-inside)
+    pub broken-buffer : (out o : List ℕ) → o ≡ putIn out 0 (slipOf (refused 1 0)) → o ≡ putIn out 0 (slipOf (asked q r))
+    broken-buffer out o i = i ∙ rw broken
 
-    slip-is : take n o ≡ slipOf (deskOf s)
-    slip-is =
-        ap₂ take size-is (f ∙ put-in-room (replicate 87 0) 0 (slipOf (deskOf s)) (rw (zero-add (length (slipOf (deskOf s)))) (desk-most s)))
-        ∙ take-at (slipOf (deskOf s)) (drop (0 + length (slipOf (deskOf s))) (replicate 87 0)) (length (slipOf (deskOf s))) refl
+  -- of an error response
+  module _ (h : not z ≡ false) (octet : (i : ℕ) → Fits w8 (getD q i 0)) (octet′ : (i : ℕ) → Fits w8 (getD r i 0))
+      (n : ℕ) (s : n ≡ refusalOf (judgedOf r) .status) (k : n ≡ 0 → ⊥) where
+    error : refused 4 n ≡ asked q r
+    error = sym (error-answer q r (octets-from q (λ i lt. octet i .fits)) (octets-from r (λ i lt. octet′ i .fits)) (slip-stands h) n s k)
 
-    pub line-count : (k r : ℕ) → r ≡ cond (ltb k (length (hexLine (take n o)))) 0 (length (hexLine (take n o)))
-        → r ≡ cond (ltb k (length (lineOf s))) 0 (length (lineOf s))
-    line-count k r x = x ∙ rw (slip-is, line-is s)
+    pub error-count : (size j : ℕ) → j ≡ cond (ltb size (length (slipOf (refused 4 n)))) 0 (length (slipOf (refused 4 n)))
+        → j ≡ cond (ltb size (length (slipOf (asked q r)))) 0 (length (slipOf (asked q r)))
+    error-count size j i = i ∙ rw error
 
-    pub line-buffer : (out p : List ℕ) → p ≡ putIn out 0 (hexLine (take n o)) → p ≡ putIn out 0 (lineOf s)
-    line-buffer out p x = x ∙ rw (slip-is, line-is s)
+    pub error-buffer : (out o : List ℕ) → o ≡ putIn out 0 (slipOf (refused 4 n)) → o ≡ putIn out 0 (slipOf (asked q r))
+    error-buffer out o i = i ∙ rw error

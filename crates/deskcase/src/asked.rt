@@ -1,9 +1,11 @@
 // The question's octets, and the answer.
 use answer::Answer;
-use ruling::Question;
+use rules::Question;
 ghost use mathlib.Core.Path.{_≡_};
+ghost use mathlib.Core.Bool.{true};
 ghost use lib.ListN.{length};
-ghost use Rattle.deskcase.specs.Asked.{questionIn, questionOk, asked};
+ghost use Rattle.question.specs.Asked.{questionIn, questionOk, asked};
+ghost use Rattle.question.specs.Stands.{numbersOk, standsOk};
 
 // Whether a question has its exact length, kind 51 hex, a Name of at most 256 octets, and zeros after
 // the Name.
@@ -22,6 +24,43 @@ fn form_fits(question: &[u8]) -> bool
     }
     let end = 97 + size;
     answer::all_zero(&question[end..])
+}
+
+// Whether the time, the tolerance and the caller's facts are in range.
+fn numbers_fit(question: &[u8]) -> bool
+    ensures { λ r. ⌜ r ≡ numbersOk 20 (now (question .entry)) ⌝ }
+{
+    if 253402300799 < fields::value_at(question, 62, 8) {
+        return false;
+    }
+    if 3600 < fields::value_at(question, 70, 2) {
+        return false;
+    }
+    if 2 < fields::value_at(question, 72, 1) {
+        return false;
+    }
+    let role = fields::value_at(question, 73, 1);
+    if role < 1 {
+        return false;
+    }
+    if 3 < role {
+        return false;
+    }
+    fields::value_at(question, 74, 1) <= 7
+}
+
+// Whether a question keeps its form and its ranges.
+pub(crate) fn stands(question: &[u8]) -> bool
+    ensures { λ r. ⌜ r ≡ standsOk (now (question .entry)) ⌝ }
+{
+    if !form_fits(question) {
+        return false;
+    }
+    if !numbers_fit(question) {
+        return false;
+    }
+    let size = question[41] as usize;
+    answer::field_fits(size, &question[42..62])
 }
 
 // The question of octets with their exact length, but for the signer's Name.
@@ -44,15 +83,23 @@ fn question_in(question: &[u8]) -> Question
     }
 }
 
+// What a response says for a question that keeps its form and its ranges.
+pub(crate) fn ask_standing(question: &[u8], response: &[u8]) -> Answer
+    requires { ⌜ standsOk (now question) ≡ true ⌝ }
+    ensures { λ r. ⌜ r ≡ asked (now (question .entry)) (now (response .entry)) ⌝ }
+{
+    let q = question_in(question);
+    let size = fields::value_at(question, 95, 2) as usize;
+    let end = 97 + size;
+    ruling::rule(q, &question[97..end], response)
+}
+
 // What a response says for a question, both as octets.
 pub fn ask(question: &[u8], response: &[u8]) -> Answer
     ensures { λ r. ⌜ r ≡ asked (now (question .entry)) (now (response .entry)) ⌝ }
 {
-    if !form_fits(question) {
+    if !stands(question) {
         return answer::refuse(1, 0);
     }
-    let q = question_in(question);
-    let size = fields::value_at(question, 95, 2) as usize;
-    let end = 97 + size;
-    ruling::check(q, &question[97..end], response)
+    ask_standing(question, response)
 }

@@ -5,9 +5,9 @@ use Prim.Native.Nat.{ℕ, _+_}
 use mathlib.Core.List.{List}
 use lib.ListN.{take, drop}
 use Rattle.element.specs.Header.{headerOf}
-use Rattle.words.specs.Spots.{expected}
-use Rattle.words.specs.declared.Spot.{Spot}
-use Rattle.words.specs.declared.Spot.the-variants.{At, Wrong}
+use Rattle.spots.specs.Spots.{expected}
+use Rattle.spots.specs.declared.Spot.{Spot}
+use Rattle.spots.specs.declared.Spot.the-variants.{At, Wrong}
 
 -- the same b octets further on
 unfoldable pub moved : ℕ → Spot → Spot

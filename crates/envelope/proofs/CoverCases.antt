@@ -22,11 +22,12 @@ use Rattle.layout.specs.Words.{statusOk}
 use Rattle.layout.specs.Kinds.{enumerated}
 use Rattle.layout.specs.Names.{Envelope, succeeds, EnvelopeParts, envelopeOf}
 use Rattle.layout.specs.Format.{responseBytes, envelopeBody}
-use Rattle.words.specs.Spots.{expected, codeOf}
-use Rattle.words.specs.ExpectLaws.{expected-at}
-use Rattle.words.specs.SpotLaws.{code-read, code-wrong}
-use Rattle.words.specs.declared.Spot.{Spot}
-use Rattle.words.specs.declared.Spot.the-variants as spot
+use Rattle.spots.specs.Spots.{expected}
+use Rattle.words.specs.Codes.{codeOf}
+use Rattle.spots.specs.ExpectLaws.{expected-at}
+use Rattle.words.specs.CodeLaws.{code-read, code-wrong}
+use Rattle.spots.specs.declared.Spot.{Spot}
+use Rattle.spots.specs.declared.Spot.the-variants as spot
 use Rattle.words.specs.declared.Code.{Code}
 use Rattle.words.specs.declared.Code.the-variants as code
 use Rattle.envelope.specs.Cover.{covered, coverBy, coverOf, bytesOf, closedBy, placeIn}

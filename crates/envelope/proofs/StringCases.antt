@@ -14,11 +14,11 @@ use Rattle.codec.specs.Sequence.{fieldDec}
 use Rattle.layout.specs.Words.{anything}
 use Rattle.layout.specs.Kinds.{oid, string}
 use Rattle.layout.specs.Read.{basicType}
-use Rattle.words.specs.Spots.{spotOf}
-use Rattle.words.specs.Last.{last-oid, last-string}
-use Rattle.words.specs.SpotLaws.{spot-reads, spot-wrong}
-use Rattle.words.specs.declared.Spot.{Spot}
-use Rattle.words.specs.declared.Spot.the-variants as spot
+use Rattle.spots.specs.Spots.{spotOf}
+use Rattle.spots.specs.Last.{last-oid, last-string}
+use Rattle.spots.specs.SpotLaws.{spot-reads, spot-wrong}
+use Rattle.spots.specs.declared.Spot.{Spot}
+use Rattle.spots.specs.declared.Spot.the-variants as spot
 use Rattle.envelope.specs.Cover.{typeString, covered, coverBy, bytesOf}
 use Rattle.envelope.specs.CoverLaws.{only-wrong, only-fills, only-left}
 use Rattle.envelope.specs.declared.Cover.the-variants as cover

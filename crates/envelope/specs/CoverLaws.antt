@@ -20,9 +20,9 @@ use Rattle.codec.specs.Sequence.{endDec, fieldDec, onlyDec}
 use Rattle.codec.specs.Tagged.{inner, taggedDec}
 use Rattle.layout.specs.Names.{Envelope, failure, success}
 use Rattle.layout.specs.Read.{basicType}
-use Rattle.words.specs.Spots.{expected}
-use Rattle.words.specs.ExpectLaws.{never, expected-at, tagged-at, tagged-wrong}
-use Rattle.words.specs.declared.Spot.the-variants as spot
+use Rattle.spots.specs.Spots.{expected}
+use Rattle.spots.specs.ExpectLaws.{never, expected-at, tagged-at, tagged-wrong}
+use Rattle.spots.specs.declared.Spot.the-variants as spot
 use Rattle.envelope.specs.Cover.{covered, coverBy, closedBy}
 use Rattle.envelope.specs.declared.Cover.the-variants as cover
 

@@ -2,8 +2,8 @@
 // the basic one and how long the string is that holds the response itself.
 //
 // No public function here has a requirement. What the string holds is not looked at.
+use spots::Spot;
 use words::Code;
-use words::Spot;
 ghost use Prim.Native.Nat.{_+_, _^_, _<_};
 ghost use mathlib.Core.Path.{_≡_};
 ghost use Rattle.codec.specs.Sequence.{only};
@@ -52,13 +52,13 @@ fn closed(start: usize, end: usize, size: usize, inner: Cover) -> Cover
 fn type_and_string(s: &[u8]) -> Cover
     ensures { λ r. ⌜ r ≡ bytesOf (typeString .dec (now (s .entry))) ⌝ }
 {
-    let kind = words::read_oid(s);
+    let kind = spots::read_oid(s);
     match kind {
         Spot::Wrong(p) => Cover::Broken(p),
         Spot::At { start, len } => {
             let end = start + len;
             let basic = octets::same(&s[start..end], b"\x2b\x06\x01\x05\x05\x07\x30\x01\x01");
-            let string = words::read_any_string(&s[end..]);
+            let string = spots::read_any_string(&s[end..]);
             match string {
                 Spot::Wrong(p) => {
                     let place = end + p;
@@ -85,7 +85,7 @@ fn type_and_string(s: &[u8]) -> Cover
 fn bytes_sequence(s: &[u8]) -> Cover
     ensures { λ r. ⌜ r ≡ bytesOf (typeSequence .dec (now (s .entry))) ⌝ }
 {
-    let spot = words::expect(s, 0x30);
+    let spot = spots::expect(s, 0x30);
     match spot {
         Spot::Wrong(p) => Cover::Broken(p),
         Spot::At { start, len } => {
@@ -100,7 +100,7 @@ fn bytes_sequence(s: &[u8]) -> Cover
 fn response_bytes(s: &[u8]) -> Cover
     ensures { λ r. ⌜ r ≡ bytesOf (only responseBytes .dec (now (s .entry))) ⌝ }
 {
-    let spot = words::expect(s, 0xa0);
+    let spot = spots::expect(s, 0xa0);
     match spot {
         Spot::Wrong(p) => Cover::Broken(p),
         Spot::At { start, len } => {
@@ -136,7 +136,7 @@ fn envelope_body(s: &[u8]) -> Cover
 pub fn read_envelope(s: &[u8]) -> Cover
     ensures { λ r. ⌜ r ≡ coverOf (envelope .dec (now (s .entry))) ⌝ }
 {
-    let spot = words::expect(s, 0x30);
+    let spot = spots::expect(s, 0x30);
     match spot {
         Spot::Wrong(p) => Cover::Broken(p),
         Spot::At { start, len } => {

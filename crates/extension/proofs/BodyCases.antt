@@ -1,50 +1,53 @@
--- The cases of what one extension holds: the value, the OID that is new, and all of it. Those of TRUE,
--- which may be there, are in Around.
+-- The cases of what one extension holds: the value; TRUE, which may be there, and the value; the OID that
+-- is new; and all of it. Each is stated as the code leaves it.
+-- value-wrong, value-filled; flag-wrong, flag-after, flag-none; new-wrong, new-end, new-sum, new-pass,
+-- new-fail; body-end, body-sum, body-wrong, body-after.
 -- Assumes nothing.
 use Prim.Native.Nat.{ℕ, _+_, _-_, _^_, _≤_, _<_}
-use native.Mathlib.Omega.{arith}
 use mathlib.Core.Path.{_≡_, refl, sym, ap, _∙_}
 use mathlib.Core.Bool.{Bool, true, false, cond}
 use mathlib.Core.List.{List}
 use mathlib.Core.Option.{none, some}
 use lib.Dec.{eqb, lit<}
-use lib.ListN.{length, take, drop, length-take, length-drop}
+use lib.ListN.{length, take, drop}
 use mir.Syntax.{w64}
 use mir.Val.{Fits}
 use Rattle.element.specs.Header.{headerOf}
 use Rattle.element.specs.declared.Header.{Header}
 use Rattle.element.specs.declared.Header.the-variants.{Found, Refused}
 use Rattle.content.specs.Oid.{oidOk}
-use Rattle.codec.specs.Codec.{Read, Got, got, bad, Whole, Element}
+use Rattle.codec.specs.Codec.{Got, got, bad, Element}
 use Rattle.codec.specs.Outcome.{attach}
 use Rattle.codec.specs.Contents.{octetsRead, orStart, filledDec}
 use Rattle.codec.specs.Tagged.{own, taggedOf, taggedDec}
 use Rattle.codec.specs.Keys.{newTo, newTest}
-use Rattle.codec.specs.Mapped.{mappedDec}
-use Rattle.codec.specs.Sequence.{fieldDec}
-use Rattle.codec.specs.Views.{stepOf, fitOf, later}
-use Rattle.codec.specs.ViewLaws.{fit-breaks, fit-mapped, fit-field, fit-field-bad, fit-only-bad}
-use Rattle.codec.specs.declared.Step.the-variants.{Taken}
+use Rattle.codec.specs.Sequence.{fieldDec, only}
+use Rattle.codec.specs.Starts.{startsWith}
+use Rattle.codec.specs.Views.{stepOf, fitOf}
+use Rattle.codec.specs.ViewLaws.{fit-only-bad}
+use Rattle.codec.specs.declared.Step.{Step}
+use Rattle.codec.specs.declared.Step.the-variants.{Taken, Bad}
 use Rattle.codec.specs.declared.Fit.{Fit}
 use Rattle.codec.specs.declared.Fit.the-variants as fit
 use Rattle.layout.specs.Words.{anything}
 use Rattle.layout.specs.Kinds.{string, oid, tag-06}
-use Rattle.layout.specs.Format.{newOid}
-use Rattle.words.specs.Spots.{spotOf}
-use Rattle.words.specs.Last.{Last, last-primitive, last-string, last-oid}
-use Rattle.words.specs.SpotLaws.{spot-reads, spot-wrong}
-use Rattle.words.specs.declared.Spot.{Spot}
-use Rattle.words.specs.declared.Spot.the-variants as spot
-use Rattle.extension.specs.Pieces.{value, fillsOf}
-use Rattle.extension.proofs.Around.{part-is, rest-is, fills-only}
+use Rattle.layout.specs.Names.{extensionOf}
+use Rattle.layout.specs.Format.{newOid, critical, extensionBody}
+use Rattle.spots.specs.Spots.{spotOf}
+use Rattle.spots.specs.ExpectLaws.{content-is}
+use Rattle.spots.specs.Last.{Last, last-primitive, last-string, last-oid}
+use Rattle.spots.specs.SpotLaws.{spot-reads, spot-wrong}
+use Rattle.spots.specs.declared.Spot.{Spot}
+use Rattle.spots.specs.declared.Spot.the-variants as spot
+use Rattle.sequence.specs.Judged.{filledBy, afterBy}
+use Rattle.sequence.specs.SeqViews.{fit-only-step}
+use Rattle.sequence.specs.SeqCases as seq
+use Rattle.extension.specs.Pieces.{value, flagged}
 
--- ── a spot, and the sum that is its end ──
-module _ (e : Element (List ℕ)) (v : Last e) (s : List ℕ) (r : Spot) (q : r ≡ spotOf (e .dec s)) (b l : ℕ) (f : r ≡ spot.At b l) where
-  spot-end : b + l ≤ length s
-  spot-end = spot-reads e v s b l (sym q ∙ f) .2
-
-  spot-got : e .dec s ≡ got (take l (drop b s)) (b + l)
-  spot-got = spot-reads e v s b l (sym q ∙ f) .0
+-- what is read where a spot is
+at-got : (e : Element (List ℕ)) (v : Last e) (s : List ℕ) (r : Spot) → r ≡ spotOf (e .dec s) → (b l : ℕ) → r ≡ spot.At b l
+    → e .dec s ≡ got (take l (drop b s)) (b + l)
+at-got e v s r q b l f = spot-reads e v s b l (sym q ∙ f) .0
 
 -- ── the value ──
 module _ (s : List ℕ) (r : Spot) (q : r ≡ spotOf (string anything .dec s)) where
@@ -52,15 +55,31 @@ module _ (s : List ℕ) (r : Spot) (q : r ≡ spotOf (string anything .dec s)) w
   unfolding value
   value-wrong p f = sym (fit-only-bad (string anything .dec) s p (spot-wrong (string anything) s p (sym q ∙ f) .0))
 
-  module _ (b l : ℕ) (f : r ≡ spot.At b l) where
-    pub value-sum : length s < 2 ^ 64 → Fits w64 (b + l)
-    value-sum z = record { fits = omega (arith, spot-end (string anything) (last-string anything) s r q b l f) }
+  pub value-filled : (b l : ℕ) → r ≡ spot.At b l → (x : Fit) → x ≡ filledBy (length s) (Taken (b + l)) → x ≡ fitOf (value .dec s)
+  unfolding value stepOf
+  value-filled b l f x c =
+      let g = at-got (string anything) (last-string anything) s r q b l f in
+      c ∙ ap (λ (y : Got (List ℕ)). filledBy (length s) (stepOf y)) (sym g) ∙ sym (fit-only-step (string anything) s)
 
-    pub value-filled : (x : Fit) → x ≡ fillsOf (Taken (b + l)) (length s) → x ≡ fitOf (value .dec s)
-    unfolding value stepOf
-    value-filled x c =
-        let g = spot-got (string anything) (last-string anything) s r q b l f in
-        c ∙ ap (λ (y : Got (List ℕ)). fillsOf (stepOf y) (length s)) (sym g) ∙ fills-only (string anything) s
+-- ── maybe TRUE, then the value ──
+module _ (s : List ℕ) (z : Bool) (d : z ≡ startsWith 0x01 s) where
+  pub flag-none : z ≡ false → (r : Fit) → r ≡ fitOf (value .dec s) → r ≡ fitOf (flagged .dec s)
+  unfolding value flagged
+  flag-none y r c = seq.option-missing 0x01 critical (only (string anything)) s z d r y c
+
+  module _ (y : z ≡ true) (x : Step) (q : x ≡ stepOf (critical .dec s)) where
+    pub flag-wrong : (p : ℕ) → x ≡ Bad p → fit.Breaks p ≡ fitOf (flagged .dec s)
+    unfolding flagged
+    flag-wrong p f =
+        seq.option-there 0x01 critical (only (string anything)) s z d (fit.Breaks p) y
+        (seq.field-wrong critical s x q (only (string anything) .dec) p f)
+
+    pub flag-after : (n : ℕ) → x ≡ Taken n → (v : Fit) → v ≡ fitOf (value .dec (take (length s - n) (drop n s)))
+        → (r : Fit) → r ≡ afterBy n (length s) v → r ≡ fitOf (flagged .dec s)
+    unfolding value flagged
+    flag-after n f v c r k =
+        seq.option-there 0x01 critical (only (string anything)) s z d r y
+        (seq.field-after critical (only (string anything)) s x q n f v c r k)
 
 -- ── an OID that is new ──
 -- what is left of an OID that was read
@@ -107,17 +126,17 @@ module _ (s : List ℕ) (r : Spot) (q : r ≡ spotOf (oid .dec s)) where
 
   module _ (b l : ℕ) (f : r ≡ spot.At b l) where
     pub new-end : b + l ≤ length s
-    new-end = spot-end oid last-oid s r q b l f
+    new-end = seq.spot-end oid last-oid s r q b l f
 
     pub new-sum : length s < 2 ^ 64 → Fits w64 (b + l)
-    new-sum z = record { fits = omega (arith, new-end) }
+    new-sum = seq.spot-sum oid last-oid s r q b l f
 
     module _ (seen : List (List ℕ)) (z : Bool) (k : z ≡ newTo seen (take (b + l - b) (drop b s))) where
       new-then : newOid seen .dec s ≡ cond z (got (take l (drop b s)) (b + l)) (bad 0)
-      new-then = new-of seen s ∙ rw (spot-got oid last-oid s r q b l f, ← part-is b l s, ← k)
+      new-then = new-of seen s ∙ rw (at-got oid last-oid s r q b l f, ← content-is b l s, ← k)
 
       pub new-pass : z ≡ true → spot.At b l ≡ spotOf (newOid seen .dec s)
-      new-pass y = f′ ∙ ap spotOf (spot-got oid last-oid s r q b l f ∙ sym (new-then ∙ rw y))
+      new-pass y = f′ ∙ ap spotOf (at-got oid last-oid s r q b l f ∙ sym (new-then ∙ rw y))
         where
           f′ : spot.At b l ≡ spotOf (oid .dec s)
           f′ = sym f ∙ q
@@ -130,35 +149,20 @@ module _ (s : List ℕ) (r : Spot) (q : r ≡ spotOf (oid .dec s)) where
 module _ (seen : List (List ℕ)) (s : List ℕ) (r : Spot) (q : r ≡ spotOf (newOid seen .dec s)) where
   module _ (b l : ℕ) (f : r ≡ spot.At b l) where
     pub body-end : b + l ≤ length s
-    body-end = spot-end (newOid seen) (new-last seen) s r q b l f
+    body-end = seq.spot-end (newOid seen) (new-last seen) s r q b l f
 
     pub body-sum : length s < 2 ^ 64 → Fits w64 (b + l)
-    body-sum z = record { fits = omega (arith, body-end) }
+    body-sum = seq.spot-sum (newOid seen) (new-last seen) s r q b l f
 
-    pub body-place : {B : Type 0} (w : Whole B) (x : Fit) → x ≡ fitOf (w .dec (take (length s - (b + l)) (drop (b + l) s)))
-        → (p : ℕ) → x ≡ fit.Breaks p → length s < 2 ^ 64 → Fits w64 (b + l + p)
-    body-place w x c p y z =
-        let v = fit-breaks w (take (length s - (b + l)) (drop (b + l) s)) p (sym c ∙ y) .1 in
-        let i = body-end in
-        record { fits = omega (arith, simp (length-take, length-drop) at v) }
+  pub body-wrong : (p : ℕ) → r ≡ spot.Wrong p → fit.Breaks p ≡ fitOf (extensionBody seen .dec s)
+  unfolding extensionBody flagged
+  body-wrong p f =
+      seq.named extensionOf s (fieldDec (newOid seen .dec) (flagged .dec)) (fit.Breaks p)
+      (seq.spot-wrong (newOid seen) (new-last seen) s r q (flagged .dec) p f)
 
-  module _ {B C : Type 0} (g : List ℕ × B → C) (d : List ℕ → Read B) where
-    pub body-wrong : (p : ℕ) → r ≡ spot.Wrong p → fit.Breaks p ≡ fitOf (mappedDec g (fieldDec (newOid seen .dec) d) s)
-    body-wrong p f =
-        sym (fit-mapped g (fieldDec (newOid seen .dec) d) s
-        ∙ fit-field-bad (newOid seen .dec) d s p (spot-wrong (newOid seen) s p (sym q ∙ f) .0))
-
-    module _ (b l : ℕ) (f : r ≡ spot.At b l) (x : Fit) (c : x ≡ fitOf (d (take (length s - (b + l)) (drop (b + l) s)))) where
-      body-later : fitOf (mappedDec g (fieldDec (newOid seen .dec) d) s) ≡ later (b + l) x
-      body-later =
-          fit-mapped g (fieldDec (newOid seen .dec) d) s
-          ∙ fit-field (newOid seen .dec) d s (take l (drop b s)) (b + l) (spot-got (newOid seen) (new-last seen) s r q b l f)
-          ∙ ap (later (b + l)) (sym (rw (rest-is (b + l) s) at c))
-
-      pub body-fits : x ≡ fit.Fits → fit.Fits ≡ fitOf (mappedDec g (fieldDec (newOid seen .dec) d) s)
-      unfolding later
-      body-fits y = sym (body-later ∙ ap (later (b + l)) y)
-
-      pub body-breaks : (p : ℕ) → x ≡ fit.Breaks p → fit.Breaks (b + l + p) ≡ fitOf (mappedDec g (fieldDec (newOid seen .dec) d) s)
-      unfolding later
-      body-breaks p y = sym (body-later ∙ ap (later (b + l)) y)
+  pub body-after : (b l : ℕ) → r ≡ spot.At b l → (x : Fit) → x ≡ fitOf (flagged .dec (take (length s - (b + l)) (drop (b + l) s)))
+      → (y : Fit) → y ≡ afterBy (b + l) (length s) x → y ≡ fitOf (extensionBody seen .dec s)
+  unfolding extensionBody flagged
+  body-after b l f x c y k =
+      seq.named extensionOf s (fieldDec (newOid seen .dec) (flagged .dec)) y
+      (seq.spot-after (newOid seen) (new-last seen) flagged s r q b l f x c y k)

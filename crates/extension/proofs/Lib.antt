@@ -1,7 +1,1 @@
-pub mod Around
-pub mod NameCases
 pub mod BodyCases
-pub mod Named
-pub mod ListCases
-pub mod StrangeCases
-pub mod StrangeAround

@@ -1,47 +1,25 @@
 // What one extension holds: an OID that is new, maybe TRUE, and an OCTET STRING.
-use crate::names;
 use codec::Fit;
 use codec::Step;
-use words::Spot;
+use spots::Spot;
 ghost use mathlib.Core.Path.{_≡_};
 ghost use mathlib.Core.List.{[]};
 ghost use Rattle.codec.specs.Views.{fitOf};
-ghost use Rattle.codec.specs.Starts.{startsWith};
-ghost use Rattle.words.specs.Spots.{spotOf};
+ghost use Rattle.spots.specs.Spots.{spotOf};
 ghost use Rattle.layout.specs.Format.{newOid, extensionBody};
-ghost use Rattle.extension.specs.Seen.{oidsOf};
-ghost use Rattle.extension.specs.Pieces.{value, flagged, fillsOf};
-
-// Whether a part begins with this octet.
-pub fn begins(s: &[u8], octet: u8) -> bool
-    ensures { λ r. ⌜ r ≡ startsWith octet (now (s .entry)) ⌝ }
-{
-    if s.len() == 0 {
-        return false;
-    }
-    s[0] == octet
-}
-
-// An element that fills a holder of this size.
-pub fn fills(step: Step, size: usize) -> Fit
-    ensures { λ r. ⌜ r ≡ fillsOf step size ⌝ }
-{
-    match step {
-        Step::Bad(p) => Fit::Breaks(p),
-        Step::Taken(n) => { if n == size { Fit::Fits } else { Fit::Breaks(n) } }
-    }
-}
+ghost use Rattle.oids.specs.Seen.{oidsOf};
+ghost use Rattle.extension.specs.Pieces.{value, flagged};
 
 // An OCTET STRING that fills s.
 fn read_value(s: &[u8]) -> Fit
     ensures { λ r. ⌜ r ≡ fitOf (value .dec (now (s .entry))) ⌝ }
 {
-    let value = words::read_any_string(s);
+    let value = spots::read_any_string(s);
     match value {
         Spot::Wrong(p) => Fit::Breaks(p),
         Spot::At { start, len } => {
             let end = start + len;
-            fills(Step::Taken(end), s.len())
+            sequence::filled(Step::Taken(end), s.len())
         }
     }
 }
@@ -50,7 +28,7 @@ fn read_value(s: &[u8]) -> Fit
 fn read_flagged(s: &[u8]) -> Fit
     ensures { λ r. ⌜ r ≡ fitOf (flagged .dec (now (s .entry))) ⌝ }
 {
-    if begins(s, 0x01) {
+    if sequence::starts_with(s, 0x01) {
         let flag = words::read_true(s);
         match flag {
             Step::Bad(p) => {
@@ -58,15 +36,7 @@ fn read_flagged(s: &[u8]) -> Fit
             }
             Step::Taken(n) => {
                 let rest = read_value(&s[n..]);
-                match rest {
-                    Fit::Fits => {
-                        return Fit::Fits;
-                    }
-                    Fit::Breaks(p) => {
-                        let place = n + p;
-                        return Fit::Breaks(place);
-                    }
-                }
+                return sequence::after(n, s.len(), rest);
             }
         }
     }
@@ -77,12 +47,12 @@ fn read_flagged(s: &[u8]) -> Fit
 fn read_new_oid(s: &[u8], count: usize, x: &[u8]) -> Spot
     ensures { λ r. ⌜ r ≡ spotOf (newOid (oidsOf count [] (now (s .entry))) .dec (now (x .entry))) ⌝ }
 {
-    let oid = words::read_oid(x);
+    let oid = spots::read_oid(x);
     match oid {
         Spot::Wrong(p) => Spot::Wrong(p),
         Spot::At { start, len } => {
             let end = start + len;
-            if names::is_new(s, count, &x[start..end]) {
+            if oids::is_new(s, count, &x[start..end]) {
                 Spot::At { start, len }
             } else {
                 Spot::Wrong(0)
@@ -101,13 +71,7 @@ pub fn read_body(s: &[u8], count: usize, x: &[u8]) -> Fit
         Spot::At { start, len } => {
             let end = start + len;
             let rest = read_flagged(&x[end..]);
-            match rest {
-                Fit::Fits => Fit::Fits,
-                Fit::Breaks(p) => {
-                    let place = end + p;
-                    Fit::Breaks(place)
-                }
-            }
+            sequence::after(end, x.len(), rest)
         }
     }
 }

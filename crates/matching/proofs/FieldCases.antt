@@ -1,21 +1,18 @@
 -- The cases of a CertID's octets compared with fields: the last octet, then one of two heads.
--- last-none; long-name, long-key, long-serial, other-last, plain-same, null-same; size-inside, size-taken,
--- card-same.
+-- last-none; long-name, long-key, long-serial, other-last, plain-same, null-same.
 -- The comparison with one head is in FormCases. Assumes nothing.
-use Prim.Native.Nat.{ℕ, _+_, _-_, _≤_, _<_, min}
-use native.Mathlib.Nat.{min-le-right}
+use Prim.Native.Nat.{ℕ, _+_, _-_, _≤_, _<_}
 use native.Mathlib.Omega.{arith}
 use mathlib.Core.Path.{_≡_, refl, sym, ap, _∙_}
 use mathlib.Core.Bool.{Bool, true, false, or-false}
 use mathlib.Core.List.{List, [], _∷_, _++_}
-use lib.ListN.{length, getD, take, length-append}
-use lib.Seq.{length-take-le}
+use lib.ListN.{length, getD, length-append}
 use borrow.Author.Tests.{le-leb, lt-leb}
 use Rattle.octets.specs.Same.{sameOf}
 use Rattle.octets.specs.SameLaws.{same-true}
 use Rattle.element.specs.Form.{formOf}
-use Rattle.matching.specs.CertForm.{cardForm, plainHead, nullHead, sha1Heads, isCardOctets, lastOf, isFields}
-use Rattle.matching.specs.FieldsLaws.{fields-card, serial-taken}
+use Rattle.matching.specs.CertForm.{cardForm, plainHead, nullHead, isCardOctets, lastOf, isFields}
+use Rattle.matching.specs.FieldsLaws.{fields-card}
 use Rattle.matching.proofs.FormCases.{short-form, short-length}
 
 -- ---- the last octet
@@ -94,19 +91,3 @@ module _ (name key serial part : List ℕ) where
           pub null-same : r ≡ false → (w : Bool) → w ≡ sameOf part (cardForm nullHead name key serial) → w ≡ isFields name key serial part
           unfolding isCardOctets
           null-same t w i = sym (fields-card name key serial part n k s ∙ simp (← e, t, ← i, or-false))
-
--- ---- a card's fields
-
-module _ (field : List ℕ) (size n : ℕ) (l : length field ≡ 20) (q : n ≡ min size 20) where
-  pub size-inside : n ≤ length field
-  size-inside = omega (arith, min-le-right size 20)
-
-  pub size-taken : n ≡ length (take n field)
-  size-taken = sym (length-take-le n field size-inside)
-
-  pub card-same : (name key part : List ℕ) → length name ≡ 20 → length key ≡ 20
-      → (r : Bool) → r ≡ isFields name key (take n field) part → r ≡ isCardOctets sha1Heads name key (take size field) part
-  card-same name key part a b r e =
-      e
-      ∙ fields-card name key (take n field) part (omega arith) (omega arith) (omega (arith, size-taken, min-le-right size 20))
-      ∙ ap (λ (x : List ℕ). isCardOctets sha1Heads name key x part) (serial-taken field size n l q)

@@ -1,11 +1,10 @@
 // A CertID's octets compared with a card's.
-use answer::Card;
 ghost use mathlib.Core.Path.{_≡_};
 ghost use Prim.Native.Nat.{_<_, min};
 ghost use lib.ListN.{length};
 ghost use Rattle.octets.specs.Same.{sameOf};
 ghost use Rattle.element.specs.Form.{formOf};
-ghost use Rattle.matching.specs.CertForm.{lastOf, cardForm, isFields, isCard};
+ghost use Rattle.matching.specs.CertForm.{lastOf, cardForm, isFields};
 
 // Whether these octets are an element with this tag, and this content of fewer than 128 octets.
 fn is_element(s: &[u8], tag: u8, content: &[u8]) -> bool
@@ -95,16 +94,4 @@ pub fn serial_size(size: usize) -> usize
         return size;
     }
     20
-}
-
-// Whether these octets are the content of a CertID for the card.
-pub fn is_card(part: &[u8], card: Card) -> bool
-    ensures { λ r. ⌜ r ≡ isCard card (now (part .entry)) ⌝ }
-{
-    let name = card.name;
-    let key = card.key;
-    let field = card.serial;
-    let size = serial_size(card.size);
-    let serial = &field[..size];
-    is_for(part, &name, &key, serial)
 }

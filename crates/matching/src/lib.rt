@@ -5,6 +5,5 @@
 // fields have. No public function has a requirement.
 mod cards; // a CertID's octets compared with a card's
 
-pub use cards::is_card;
 pub use cards::is_for;
 pub use cards::serial_size;

@@ -2,7 +2,7 @@
 -- exactly when its row is the first of the table that applies, and nothing that is old.
 -- accepted-in-full, in-range-in-full; good-exactly, revoked-exactly, unknown-exactly, answered-exactly, never-old.
 -- Refusals are in Refusals, that no answer is about another card is in OneCard.
--- `answerOf` is what ruling::check answers for a question, the signer's Name and a response (ruling: Ruling).
+-- `answerOf` is what ruling::check answers for a question, the signer's Name and a response (rules: Ruling).
 -- Assumes nothing.
 use Prim.Native.Nat.{ℕ, _+_, _≤_}
 use mathlib.Core.Logic.{_↔_}
@@ -16,11 +16,11 @@ use Rattle.layout.specs.Read.{reads, reading}
 use Rattle.answer.specs.Card.{cardOk}
 use Rattle.answer.specs.declared.Reason.{Reason}
 use Rattle.answer.specs.declared.Verdict.the-variants.{Good, Revoked, Unknown}
-use Rattle.ruling.specs.declared.Question.{Question}
-use Rattle.ruling.specs.Order.{entriesFor}
-use Rattle.ruling.specs.Ruling.{reasonIn, answerOf}
-use Rattle.ruling.specs.Accepted.{InRange, Signs, KnownInResponse, KnownInEntry, Understood, Accepted, NoRefusal, HasTimes}
-use Rattle.ruling.specs.RulingLaws as ruling
+use Rattle.rules.specs.declared.Question.{Question}
+use Rattle.rules.specs.Order.{entriesFor}
+use Rattle.rules.specs.Ruling.{reasonIn, answerOf}
+use Rattle.rules.specs.Accepted.{InRange, Signs, KnownInResponse, KnownInEntry, Understood, Accepted, NoRefusal, HasTimes}
+use Rattle.rules.specs.RulingLaws as ruling
 
 module _ (q : Question) (name s : List ℕ) where
   -- ── the conditions, in full ──

@@ -22,8 +22,8 @@ use Rattle.freshness.specs.Fresh.{freshOf, refusalOf}
 use Rattle.freshness.specs.declared.Next.the-variants as update
 use Rattle.answer.specs.Verdict.{numberOf}
 use Rattle.answer.specs.declared.Card.{Card}
-use Rattle.ruling.specs.Ruling.{answerOf}
-use Rattle.ruling.specs.declared.Question.{Question}
+use Rattle.rules.specs.Ruling.{answerOf}
+use Rattle.rules.specs.declared.Question.{Question}
 use Rattle.request.specs.Request.{requestOf, requestRefusal}
 
 -- what document 01 marks; digits are the decimal digits before the Z

@@ -1,7 +1,7 @@
 -- The desk's program: from the octets of its input to the line that it writes.
 -- question-form, question-fields; desk-asks, desk-refuses, desk-short; desk-slip, desk-read; desk-line; case.
--- `deskOf` is the answer to an input, a question of 353 octets and then the response (deskcase: Asked), `lineOf` the line
--- that deskcase::line_for writes (deskcase: Line). What is read from outside and written there, no theorem says.
+-- `deskOf` is the answer to an input, a question of 353 octets and then the response (question: Asked), `lineOf` the line
+-- that deskline::line_for writes (question: Line). What is read from outside and written there, no theorem says.
 -- Assumes nothing.
 use Prim.Native.Nat.{ℕ, _≤_, _<_}
 use mathlib.Core.Logic.{_↔_}
@@ -13,17 +13,17 @@ use Rattle.octets.specs.Octets.{Octets}
 use Rattle.answer.specs.Card.{allZero}
 use Rattle.answer.specs.Verdict.{refused}
 use Rattle.fields.specs.Field.{fieldAt, valueAt, cardIn}
-use Rattle.ruling.specs.Ruling.{answerOf}
-use Rattle.ruling.specs.Examples.{failure}
+use Rattle.rules.specs.Ruling.{answerOf}
+use Rattle.rules.specs.Examples.{failure}
 use Rattle.slip.specs.Slip.{slipOf, slipOk, readOf}
 use Rattle.slip.specs.SlipLaws.{read-written}
 use Rattle.hex.specs.Hex.{hexOf}
-use Rattle.deskcase.specs.Asked.{nameSize, questionIn, nameIn, fillIn, questionOk, asked, deskOf}
-use Rattle.deskcase.specs.AskedLaws as desk
-use Rattle.deskcase.specs.SizeLaws.{asked-sized}
-use Rattle.deskcase.specs.Line.{lineOf}
-use Rattle.deskcase.specs.LineLaws.{desk-fits, desk-most}
-use Rattle.deskcase.specs.Examples as examples
+use Rattle.question.specs.Asked.{nameSize, questionIn, nameIn, fillIn, questionOk, asked, deskOf}
+use Rattle.question.specs.AskedLaws as desk
+use Rattle.question.specs.SizeLaws.{asked-sized}
+use Rattle.question.specs.Line.{lineOf}
+use Rattle.question.specs.LineLaws.{desk-fits, desk-most}
+use Rattle.question.specs.Examples as examples
 
 -- a question keeps its form: 353 octets, kind 51 hex, a Name of at most 256 octets, and zeros after the Name
 pub question-form : (q : List ℕ) → questionOk 20 q ≡ true

@@ -3,13 +3,14 @@
 -- walk and the program's line are in Writers.
 -- -met: of every model of the program logic, a call of the function is safe, ends, and leaves what its contract says;
 -- -tells: what that is, of the arguments `a` in their order, `a .0`, `a .1 .0`, `a .1 .1 .0`, and the parameters at exit `e`.
--- The like of every public function is proved in its own crate; that all are settled is in Settled and the files after it.
+-- The like of every public function is proved in its own crate; that all are settled is in crate settled.
 -- Assumes nothing.
 use mathlib.Core.Path.{_≡_}
 use denote.Ref.{now}
 use Rattle.response.specs.Parts.{judgedOf}
-use Rattle.response.specs.Shown.{signedOf, signatureOf, refusalOf}
-use Rattle.ruling.specs.Ruling.{answerOf}
+use Rattle.response.specs.Refusals.{refusalOf}
+use Rattle.show.specs.Shown.{signedOf, signatureOf}
+use Rattle.rules.specs.Ruling.{answerOf}
 use Rattle.ruling.proofs.check.Reads as check
 use Rattle.ruling.proofs.check.Statement as check-contract
 use Rattle.ruling.proofs.check.Met as check-theorem
@@ -19,12 +20,12 @@ use Rattle.response.proofs.judge.Met as judge-theorem
 use Rattle.response.proofs.refuse.Reads as refuse
 use Rattle.response.proofs.refuse.Statement as refuse-contract
 use Rattle.response.proofs.refuse.Met as refuse-theorem
-use Rattle.response.proofs.signed_part.Reads as signed-part
-use Rattle.response.proofs.signed_part.Statement as signed-part-contract
-use Rattle.response.proofs.signed_part.Met as signed-part-theorem
-use Rattle.response.proofs.signature.Reads as signature
-use Rattle.response.proofs.signature.Statement as signature-contract
-use Rattle.response.proofs.signature.Met as signature-theorem
+use Rattle.show.proofs.signed_part.Reads as signed-part
+use Rattle.show.proofs.signed_part.Statement as signed-part-contract
+use Rattle.show.proofs.signed_part.Met as signed-part-theorem
+use Rattle.show.proofs.signature.Reads as signature
+use Rattle.show.proofs.signature.Statement as signature-contract
+use Rattle.show.proofs.signature.Met as signature-theorem
 
 -- what a contract tells after every call: a claim of the lifetimes, the arguments, the result and the parameters at exit
 abbrev pub Tells : {K : Type 0} {A Z E : K → Type 0} → ((k : K) → A k → Z k → E k → Type 0) → ((k : K) → A k → Z k → E k → Type 0) → Type 0
@@ -51,7 +52,7 @@ refuse-met = refuse-theorem.met
 pub refuse-tells : Tells refuse.Learnt (λ k a z e. z ≡ refusalOf (judgedOf (now (a .0))))
 refuse-tells k a z e p = p
 
--- ── response::signed_part(response) and response::signature(response): the caller's own octets ──
+-- ── show::signed_part(response) and show::signature(response): the caller's own octets ──
 pub signed-part-met : {M : Type 1} → signed-part-contract.statement M
 signed-part-met = signed-part-theorem.met
 

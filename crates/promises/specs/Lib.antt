@@ -11,11 +11,3 @@ pub mod Walk
 pub mod Desk
 pub mod Claims
 pub mod Marked
-pub mod Settled
-pub mod SettledOctets
-pub mod SettledWords
-pub mod SettledResponse
-pub mod SettledRuling
-pub mod SettledDesk
-pub mod SettledWalk
-pub mod SettledC

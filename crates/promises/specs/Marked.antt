@@ -12,7 +12,7 @@ use Rattle.layout.specs.Opened.{opened}
 use Rattle.answer.specs.Verdict.{refused}
 use Rattle.answer.specs.declared.Card.{Card}
 use Rattle.matching.specs.CertForm.{cardForm}
-use Rattle.ruling.specs.Examples.{checked}
+use Rattle.rules.specs.Examples.{checked}
 use Rattle.request.specs.Request.{requestForm}
 use Rattle.promises.specs.Claims.{Claim, isTime, noTime, isLength, noLength, isSerial, noSerial, gives, counts, request, holds}
 

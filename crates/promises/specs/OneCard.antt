@@ -1,6 +1,6 @@
 -- For the depositor: an accepted answer is about this card and no other, and counts at the time that was asked.
 -- one-entry; for-card-in-full, only-entry-in-full; two-cards, changed-octet.
--- `ForCard`, `OnlyEntry` and `Differ` say in plain words which entry is for a card (ruling: OneCard).
+-- `ForCard`, `OnlyEntry` and `Differ` say in plain words which entry is for a card (rules: OneCard).
 -- two-cards and changed-octet ask that a serial has octets, as every card of the code has.
 -- Assumes nothing.
 use Prim.Native.Nat.{ℕ, _+_, _≤_}
@@ -17,13 +17,13 @@ use Rattle.layout.specs.Read.{reads, reading}
 use Rattle.answer.specs.Card.{serialIn}
 use Rattle.answer.specs.declared.Card.{Card}
 use Rattle.matching.specs.Match.{sha1}
-use Rattle.ruling.specs.declared.Question.{Question}
-use Rattle.ruling.specs.Ruling.{said, answerOf}
-use Rattle.ruling.specs.Accepted.{Accepted, NoRefusal}
-use Rattle.ruling.specs.RulingLaws.{accepted-exactly, accepted-answer}
-use Rattle.ruling.specs.OneCard.{ForCard, OnlyEntry, Differ}
-use Rattle.ruling.specs.EntriesLaws.{only-exactly}
-use Rattle.ruling.specs.OneCardLaws as ruling
+use Rattle.rules.specs.declared.Question.{Question}
+use Rattle.rules.specs.Ruling.{said, answerOf}
+use Rattle.rules.specs.Accepted.{Accepted, NoRefusal}
+use Rattle.rules.specs.RulingLaws.{accepted-exactly, accepted-answer}
+use Rattle.rules.specs.OneCard.{ForCard, OnlyEntry, Differ}
+use Rattle.rules.specs.EntriesLaws.{only-exactly}
+use Rattle.rules.specs.OneCardLaws as ruling
 
 -- an entry is for a card: its algorithm is SHA-1, with parameters absent or 05 00, and its two hashes and its serial are
 -- the card's

@@ -19,9 +19,9 @@ use Rattle.layout.specs.Limits.{Within, BasicOk, FailureOk}
 use Rattle.layout.specs.Read.{der, Outcome, reads, otherType, unfit, reading}
 use Rattle.layout.specs.Theorem.{sound, complete, unique, der-octets}
 use Rattle.layout.specs.Opened.{opened}
-use Rattle.words.specs.ExpectLaws.{never}
+use Rattle.spots.specs.ExpectLaws.{never}
 use Rattle.response.specs.Parts.{judgedAs, judgedOf}
-use Rattle.response.specs.ShownLaws.{partsIn, judged-basic, basic-judged}
+use Rattle.response.specs.JudgedLaws.{partsIn, judged-basic, basic-judged}
 use Rattle.response.specs.declared.Parts.{Parts}
 use Rattle.response.specs.declared.Judged.the-variants as judged
 

@@ -1,7 +1,7 @@
 -- What the check refuses (demand 2): refusal n exactly when row n of document 01's table applies and no earlier one does,
 -- what a refusal hands out, and that it is never good, revoked or unknown.
 -- table; refused-exactly, handed-out, empty-card, error-status; never-revoked, always-answered, out-of-range.
--- `tests` is the table from 1 to 16 as data, of a case: question, Name, size and what the octets read as (ruling: Order).
+-- `tests` is the table from 1 to 16 as data, of a case: question, Name, size and what the octets read as (rules: Order).
 -- Assumes nothing.
 use Prim.Native.Nat.{ℕ, _≤_, _<_}
 use mathlib.Core.Logic.{_⊎_, _↔_}
@@ -18,14 +18,14 @@ use Rattle.answer.specs.Card.{emptyCard}
 use Rattle.answer.specs.Verdict.{refused}
 use Rattle.answer.specs.declared.Reason.{Reason}
 use Rattle.answer.specs.declared.Verdict.the-variants.{Good, Revoked, Unknown, Refused}
-use Rattle.ruling.specs.declared.Question.{Question}
-use Rattle.ruling.specs.Question.{inRange}
-use Rattle.ruling.specs.Signer.{isSigner, inResponse, inEntry, strangeIn}
-use Rattle.ruling.specs.Order.{Case, isUnfit, isFailed, isOther, entriesFor, isNone, areMore, lacksMark, missed, ofResponse, ofEntry, tests, firstOf}
-use Rattle.ruling.specs.Rows.{testOf}
-use Rattle.ruling.specs.Ruling.{caseOf, answerOf}
-use Rattle.ruling.specs.Accepted.{Accepted, IsRefusal}
-use Rattle.ruling.specs.RefusalLaws as ruling
+use Rattle.rules.specs.declared.Question.{Question}
+use Rattle.rules.specs.Question.{inRange}
+use Rattle.rules.specs.Signer.{isSigner, inResponse, inEntry, strangeIn}
+use Rattle.rules.specs.Order.{Case, isUnfit, isFailed, isOther, entriesFor, isNone, areMore, lacksMark, missed, ofResponse, ofEntry, tests, firstOf}
+use Rattle.rules.specs.Rows.{testOf}
+use Rattle.rules.specs.Ruling.{caseOf, answerOf}
+use Rattle.rules.specs.Accepted.{Accepted, IsRefusal}
+use Rattle.rules.specs.RefusalLaws as ruling
 
 -- the table, row by row: each number, and whether its test applies
 pub table : (c : Case) → tests c

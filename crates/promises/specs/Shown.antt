@@ -1,6 +1,6 @@
 -- What is shown of a response: its signed part and its signature, as the caller's own octets.
 -- signed-part, signature-part; signed-header, signature-header; refused-empty. The entries one by one are in Walk.
--- `signedOf` and `signatureOf` are what response::signed_part and response::signature return (response: Shown);
+-- `signedOf` and `signatureOf` are what show::signed_part and show::signature return (response: Shown);
 -- `Stands s at x`: the octets of s at the place `at` are x, and end inside s (response: Stands).
 -- Assumes nothing.
 use Prim.Native.Nat.{ℕ, _≤_}
@@ -15,8 +15,9 @@ use Rattle.layout.specs.Read.{reads, reading}
 use Rattle.response.specs.Parts.{judgedOf}
 use Rattle.response.specs.Stands.{Stands}
 use Rattle.response.specs.PartsLaws.{signed-stands, signature-stands}
-use Rattle.response.specs.Shown.{signedIn, signedOf, signatureIn, signatureOf}
-use Rattle.response.specs.ShownLaws.{partsIn, signed-shown, signature-shown}
+use Rattle.show.specs.Shown.{signedIn, signedOf, signatureIn, signatureOf}
+use Rattle.response.specs.JudgedLaws.{partsIn}
+use Rattle.show.specs.ShownLaws.{signed-shown, signature-shown}
 use Rattle.response.specs.declared.Parts.{Parts}
 use Rattle.response.specs.declared.Judged.{Judged}
 use Rattle.response.specs.declared.Judged.the-variants as judged

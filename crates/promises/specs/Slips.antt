@@ -1,8 +1,8 @@
 -- Slips: an answer that is written as one is read back, and a slip that is read is written as the same octets.
 -- good-slip, unknown-slip, revoked-slip, refusal-slip; read-back, written-back, exactly-its-slip; slip-size, sizes;
 -- slip-refused, slip-short, slip-written.
--- `slipOf` is an answer's slip, `slipOk` the slip rules, `readOf` what slips::read_slip answers (slip: Slip, Rules);
--- `outputOf` and `outputIn` are what slips::write_slip answers and leaves in the lent buffer (fields: Output).
+-- `slipOf` is an answer's slip, `slipOk` the slip rules, `readOf` what slip_read::read_slip answers (slip: Slip, Rules);
+-- `outputOf` and `outputIn` are what slip_write::write_slip answers and leaves in the lent buffer (fields: Output).
 -- `Hashed 20 a`: where the slip of a has a card, its hashes and its serial's field have 20 octets, as every card of the code has.
 -- Assumes nothing.
 use Prim.Native.Nat.{ℕ, _≤_, _<_}

@@ -1,8 +1,8 @@
 -- The walk over the entries of a response, as document 01 has it.
 -- each-once, place-counts, end-said, end-for-ever, whole-list; refusal-number, refusal-said, refusal-for-ever.
--- A walk keeps the lent response and its place, the number of entries handed out (walk: Walk). `sayOf` is what
--- walk::step says, `handOf` what walk::part and walk::next hand out, `movedOf` the walk after it (walk: Walked); `handed n w`
--- is what n steps from w hand out, in order, and `after n w` the walk then (walk: Handed).
+-- A walk keeps the lent response and its place, the number of entries handed out (walked: Walk). `sayOf` is what
+-- steps::step says, `handOf` what steps::part and walk::next hand out, `movedOf` the walk after it (walked: Walked); `handed n w`
+-- is what n steps from w hand out, in order, and `after n w` the walk then (walked: Handed).
 -- Assumes nothing.
 use Prim.Native.Nat.{ℕ, _≤_}
 use mathlib.Core.Path.{_≡_}
@@ -15,15 +15,16 @@ use Rattle.layout.specs.Reading.{Basic, basic}
 use Rattle.layout.specs.Format.{singleResponse}
 use Rattle.layout.specs.Read.{reads, reading}
 use Rattle.response.specs.Parts.{judgedOf}
-use Rattle.response.specs.Shown.{octetsIn, refusalOf, refused}
-use Rattle.response.specs.ShownLaws.{partsIn}
+use Rattle.response.specs.Refusals.{refusalOf}
+use Rattle.show.specs.Shown.{octetsIn, refused}
+use Rattle.response.specs.JudgedLaws.{partsIn}
 use Rattle.response.specs.declared.Parts.{Parts}
 use Rattle.response.specs.declared.Judged.{Judged}
 use Rattle.response.specs.declared.Judged.the-variants as judged
-use Rattle.response.specs.declared.Entry.the-variants as entry
-use Rattle.walk.specs.Walked.{startOf, sayOf, handOf, movedOf}
-use Rattle.walk.specs.Handed.{at, handed, after}
-use Rattle.walk.specs.Theorem as walk
+use Rattle.show.specs.declared.Entry.the-variants as entry
+use Rattle.walked.specs.Walked.{startOf, sayOf, handOf, movedOf}
+use Rattle.walked.specs.Handed.{at, handed, after}
+use Rattle.walked.specs.Theorem as walk
 
 -- ── a lent response r that reads as a basic one ──
 module _ (r : RefT (List ℕ)) (b : Basic) (o : Octets (now r)) (le : length (now r) ≤ 16384) (e : reading (now r) ≡ reads (basic b)) where

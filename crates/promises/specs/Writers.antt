@@ -1,5 +1,5 @@
 -- The functions that the promises speak of, continued: those that write, the slip reader, a step of a walk, and the desk.
--- write-request, write-slip, read-slip, next, ask and line-for, each with -met and -tells; what next tells is in SettledWalk.
+-- write-request, write-slip, read-slip, next, ask and line-for, each with -met and -tells; what next tells is in SettledWalk of crate settled.
 -- What -met and -tells say, and Tells, are in Functions. The arguments `a` are counted `a .0`, `a .1 .0`; a lent buffer is
 -- among them, and as it is left among the parameters at exit `e`.
 -- Assumes nothing.
@@ -12,25 +12,25 @@ use Rattle.octets.specs.Buffer.{putIn}
 use Rattle.fields.specs.Output.{outputOf, outputIn}
 use Rattle.request.specs.Request.{requestOf, requestRefusal}
 use Rattle.slip.specs.Slip.{slipOf, slipRefusal, readOf}
-use Rattle.deskcase.specs.Asked.{asked}
-use Rattle.deskcase.specs.Line.{lineOf}
+use Rattle.question.specs.Asked.{asked}
+use Rattle.question.specs.Line.{lineOf}
 use Rattle.request.proofs.write_request.Reads as write-request
 use Rattle.request.proofs.write_request.Statement as write-request-contract
 use Rattle.request.proofs.write_request.Met as write-request-theorem
-use Rattle.slips.proofs.write_slip.Reads as write-slip
-use Rattle.slips.proofs.write_slip.Statement as write-slip-contract
-use Rattle.slips.proofs.write_slip.Met as write-slip-theorem
-use Rattle.slips.proofs.read_slip.Reads as read-slip
-use Rattle.slips.proofs.read_slip.Statement as read-slip-contract
-use Rattle.slips.proofs.read_slip.Met as read-slip-theorem
+use Rattle.slip_write.proofs.write_slip.Reads as write-slip
+use Rattle.slip_write.proofs.write_slip.Statement as write-slip-contract
+use Rattle.slip_write.proofs.write_slip.Met as write-slip-theorem
+use Rattle.slip_read.proofs.read_slip.Reads as read-slip
+use Rattle.slip_read.proofs.read_slip.Statement as read-slip-contract
+use Rattle.slip_read.proofs.read_slip.Met as read-slip-theorem
 use Rattle.walk.proofs.next.Statement as next-contract
 use Rattle.walk.proofs.next.Met as next-theorem
 use Rattle.deskcase.proofs.ask.Reads as ask
 use Rattle.deskcase.proofs.ask.Statement as ask-contract
 use Rattle.deskcase.proofs.ask.Met as ask-theorem
-use Rattle.deskcase.proofs.line_for.Reads as line-for
-use Rattle.deskcase.proofs.line_for.Statement as line-for-contract
-use Rattle.deskcase.proofs.line_for.Met as line-for-theorem
+use Rattle.deskline.proofs.line_for.Reads as line-for
+use Rattle.deskline.proofs.line_for.Statement as line-for-contract
+use Rattle.deskline.proofs.line_for.Met as line-for-theorem
 use Rattle.promises.specs.Functions.{Tells}
 
 -- ── request::write_request(card, out): how many octets or why none, and the buffer ──
@@ -42,7 +42,7 @@ pub write-request-tells : Tells write-request.Learnt (λ k a z e.
     × (now (e .1 .0) ≡ outputIn (requestRefusal (a .0)) (now (a .1 .0)) (requestOf (a .0))))
 write-request-tells k a z e p = (p .0, p .1)
 
--- ── slips::write_slip(answer, out): the same of a slip ──
+-- ── slip_write::write_slip(answer, out): the same of a slip ──
 pub write-slip-met : {M : Type 1} → write-slip-contract.statement M
 write-slip-met = write-slip-theorem.met
 
@@ -51,7 +51,7 @@ pub write-slip-tells : Tells write-slip.Learnt (λ k a z e.
     × (now (e .1 .0) ≡ outputIn (slipRefusal (a .0)) (now (a .1 .0)) (slipOf (a .0))))
 write-slip-tells k a z e p = (p .0, p .1)
 
--- ── slips::read_slip(slip): its answer, or 17 ──
+-- ── slip_read::read_slip(slip): its answer, or 17 ──
 pub read-slip-met : {M : Type 1} → read-slip-contract.statement M
 read-slip-met = read-slip-theorem.met
 
@@ -69,7 +69,7 @@ ask-met = ask-theorem.met
 pub ask-tells : Tells ask.Learnt (λ k a z e. z ≡ asked (now (a .0)) (now (a .1 .0)))
 ask-tells k a z e p = p
 
--- ── deskcase::line_for(input, out): the program's line, or 0 and the buffer as it was ──
+-- ── deskline::line_for(input, out): the program's line, or 0 and the buffer as it was ──
 pub line-for-met : {M : Type 1} → line-for-contract.statement M
 line-for-met = line-for-theorem.met
 

@@ -7,6 +7,6 @@
 //   OneCard                nothing about another card
 //   Shown, Requests, Slips, Walk, Desk     the signed part; what is written; the walk; the program's line
 //   Claims, Marked         M1 to M12, one theorem over a list of them
-//   Settled, and after it  every public contract settles its result and its buffers
 //
-// docs/PROMISES.md has each promise in plain words beside its name.
+// That every public contract settles its result and its buffers is in crate settled. docs/PROMISES.md has
+// each promise in plain words beside its name.

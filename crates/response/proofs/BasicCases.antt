@@ -17,18 +17,19 @@ use Rattle.codec.specs.Sequence.{fieldDec}
 use Rattle.codec.specs.Mapped.{mappedDec}
 use Rattle.layout.specs.Reading.{Signed}
 use Rattle.layout.specs.Format.{signedBody, responseData, basicBody}
-use Rattle.words.specs.Spots.{expected}
-use Rattle.words.specs.ExpectLaws.{expected-at, tagged-at, tagged-wrong, expected-wrong}
-use Rattle.words.specs.declared.Spot.{Spot}
-use Rattle.words.specs.declared.Spot.the-variants as spot
+use Rattle.spots.specs.Spots.{expected}
+use Rattle.spots.specs.ExpectLaws.{expected-at, tagged-at, tagged-wrong, expected-wrong}
+use Rattle.spots.specs.declared.Spot.{Spot}
+use Rattle.spots.specs.declared.Spot.the-variants as spot
 use Rattle.response.specs.Parts.{span, signedSize}
-use Rattle.response.specs.Views.{certificatesOn, signatureOn, algorithmOn, insideOf, tailOf, bodyOf}
+use Rattle.pieces.specs.Views.{certificatesOn, signatureOn, algorithmOn, insideOf, tailOf}
+use Rattle.response.specs.Content.{bodyOf}
 use Rattle.response.specs.declared.basics.Body.the-variants as body
-use Rattle.response.specs.declared.signed.Inside.{Inside}
-use Rattle.response.specs.declared.signed.Inside.the-variants as inside
-use Rattle.response.specs.declared.tails.Tail.{Tail}
-use Rattle.response.specs.declared.tails.Tail.the-variants as tail
-use Rattle.response.proofs.Lent.{Known, known-octets, rest-is, part-is, part-length, whole-size}
+use Rattle.pieces.specs.declared.Inside.{Inside}
+use Rattle.pieces.specs.declared.Inside.the-variants as inside
+use Rattle.pieces.specs.declared.Tail.{Tail}
+use Rattle.pieces.specs.declared.Tail.the-variants as tail
+use Rattle.pieces.specs.Lent.{Known, known-octets, rest-is, part-is, part-length, whole-size}
 use Rattle.response.proofs.Sizes.{inside-broke, inside-read, tail-broke, tail-read, Inner, Outer, Rest, made, inner-end, outer-end, parts-same}
 
 module _ (s : List ℕ) (at : ℕ) (fits : at + length s ≤ 16384) (x : Spot) (q : x ≡ expected 0x30 (headerOf s)) where

@@ -22,22 +22,22 @@ use Rattle.layout.specs.Format.{basicBody, basicResponse, envelope}
 use Rattle.layout.specs.Read.{basicType, innerReading, envelopeReading, reading}
 use Rattle.layout.specs.InnerLaws.{string-read}
 use Rattle.layout.specs.Theorem.{inner-place}
-use Rattle.words.specs.Spots.{expected}
-use Rattle.words.specs.ExpectLaws.{never, expected-at, expected-wrong, tagged-at, tagged-wrong}
-use Rattle.words.specs.declared.Spot.{Spot}
-use Rattle.words.specs.declared.Spot.the-variants as spot
+use Rattle.spots.specs.Spots.{expected}
+use Rattle.spots.specs.ExpectLaws.{never, expected-at, expected-wrong, tagged-at, tagged-wrong}
+use Rattle.spots.specs.declared.Spot.{Spot}
+use Rattle.spots.specs.declared.Spot.the-variants as spot
 use Rattle.envelope.specs.Cover.{coverOf}
 use Rattle.envelope.specs.CoverLaws.{only-wrong, only-fills, only-left, cover-broken, cover-failed, cover-holds}
 use Rattle.envelope.specs.declared.Cover.{Cover}
 use Rattle.envelope.specs.declared.Cover.the-variants as cover
 use Rattle.response.specs.Parts.{partsFrom, judgedAs, judgedOf}
-use Rattle.response.specs.Views.{bodyOf}
+use Rattle.response.specs.Content.{bodyOf}
 use Rattle.response.specs.declared.Parts.{Parts}
 use Rattle.response.specs.declared.Judged.{Judged}
 use Rattle.response.specs.declared.Judged.the-variants as judged
 use Rattle.response.specs.declared.basics.Body.{Body}
 use Rattle.response.specs.declared.basics.Body.the-variants as body
-use Rattle.response.proofs.Lent.{Known, known-octets, rest-is, part-is, part-length, whole-size}
+use Rattle.pieces.specs.Lent.{Known, known-octets, rest-is, part-is, part-length, whole-size}
 
 -- ── what the answer for the content tells ──
 body-broke : (at : ℕ) (o : Read Basic) (p : ℕ) → bodyOf at o ≡ body.Broken p → (j : ℕ) × (o ≡ broke j) × (at + j ≡ p)

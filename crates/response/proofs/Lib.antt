@@ -1,9 +1,4 @@
-pub mod Lent
-pub mod TailCases
-pub mod ListCases
-pub mod SignedCases
 pub mod Sizes
 pub mod BasicCases
 pub mod JudgeCases
-pub mod ShownCases
-pub mod EntryCases
+pub mod RefusalCases

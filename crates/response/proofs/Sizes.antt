@@ -16,12 +16,12 @@ use Rattle.codec.specs.Many.{forms}
 use Rattle.codec.specs.Tree.{Tree}
 use Rattle.layout.specs.Reading.{Algorithm, Entry, Signed, Basic}
 use Rattle.layout.specs.Format.{singleResponse, responses, extensions, signedBody, algorithmIdentifier, signatureBits, certificates, basicBody}
-use Rattle.words.specs.ExpectLaws.{never}
-use Rattle.response.specs.Parts.{span, partsFrom, responderSize, producedSize, responsesSize, entriesSize, signedSize, algorithmSize}
-use Rattle.response.specs.Views.{insideOf, tailOf, entriesPlace, entriesLength}
+use Rattle.spots.specs.ExpectLaws.{never}
+use Rattle.response.specs.Parts.{span, partsFrom, responsesSize, entriesSize, signedSize, algorithmSize}
+use Rattle.pieces.specs.Views.{responderSize, producedSize, insideOf, tailOf, entriesPlace, entriesLength}
 use Rattle.response.specs.declared.Parts.{Parts}
-use Rattle.response.specs.declared.signed.Inside.the-variants as inside
-use Rattle.response.specs.declared.tails.Tail.the-variants as tail
+use Rattle.pieces.specs.declared.Inside.the-variants as inside
+use Rattle.pieces.specs.declared.Tail.the-variants as tail
 
 -- ── sizes of forms ──
 entries-short : (l : List Entry) → entriesLength l ≤ length (responses .enc l)

@@ -1,5 +1,5 @@
--- A basic response with every optional part, judged and shown by computing; and what is refused.
--- full-judged, full-signature, first-entry, second-entry, no-entry; unauthorized, m10, left-over.
+-- A basic response with every optional part, judged by computing; and what is refused.
+-- full, full-judged; unauthorized, m10, left-over.
 -- Assumes nothing.
 use Prim.Native.Nat.{ℕ}
 use mathlib.Core.Path.{_≡_, refl}
@@ -7,9 +7,8 @@ use mathlib.Core.List.{List, [], _∷_, _++_}
 use Rattle.layout.specs.Opened.{opened}
 use Rattle.layout.specs.Examples.{sha1, typeElement, first, next, hashes, signature}
 use Rattle.response.specs.Parts.{span, partsFrom, judgedAs, judgedOf}
-use Rattle.response.specs.Shown.{signatureIn, signatureOf, refusal, refusalOf, entryIn, entryAs, entryOf}
+use Rattle.response.specs.Refusals.{refusal, refusalOf}
 use Rattle.response.specs.declared.Judged.the-variants as judged
-use Rattle.response.specs.declared.Entry.the-variants as entry
 
 -- ── a response of 235 octets, with two entries of 100 and 41 ──
 abbrev revokedEntry : List ℕ
@@ -21,7 +20,7 @@ revokedEntry =
 abbrev unknownEntry : List ℕ
 unknownEntry = (0x30 ∷ 0x27 ∷ 0x30 ∷ 0x12 ∷ 0x30 ∷ 0x07 ∷ 0x06 ∷ 0x05 ∷ sha1) ++ hashes ++ (0x02 ∷ 0x01 ∷ 0x05 ∷ 0x82 ∷ 0x00 ∷ first)
 
-abbrev full : List ℕ
+abbrev pub full : List ℕ
 full =
     (0x30 ∷ 0x81 ∷ 0xe8 ∷ 0x0a ∷ 0x01 ∷ 0x00 ∷ 0xa0 ∷ 0x81 ∷ 0xe2 ∷ 0x30 ∷ 0x81 ∷ 0xdf ∷ typeElement)
     ++ (0x04 ∷ 0x81 ∷ 0xd1 ∷ 0x30 ∷ 0x81 ∷ 0xce ∷ 0x30 ∷ 0x81 ∷ 0xb9 ∷ 0xa1 ∷ 0x04 ∷ 0x30 ∷ 0x02 ∷ 0x31 ∷ 0x00 ∷ first)
@@ -42,23 +41,6 @@ full-judged : judgedOf full ≡ judged.Basic record {
 }
 unfolding opened judgedOf judgedAs partsFrom
 full-judged = refl
-
-full-signature : signatureOf full ≡ 0xaa ∷ 0xbb ∷ []
-unfolding opened judgedOf judgedAs partsFrom signatureOf signatureIn
-full-signature = refl
-
--- its entries, and past them
-first-entry : entryOf full 0 ≡ entry.At 58 100
-unfolding opened judgedAs partsFrom entryOf entryAs entryIn
-first-entry = refl
-
-second-entry : entryOf full 1 ≡ entry.At 158 41
-unfolding opened judgedAs partsFrom entryOf entryAs entryIn
-second-entry = refl
-
-no-entry : entryOf full 2 ≡ entry.End
-unfolding opened judgedAs partsFrom entryOf entryAs entryIn
-no-entry = refl
 
 -- ── refusals ──
 -- an error response gives 4, and its status

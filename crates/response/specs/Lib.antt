@@ -1,10 +1,7 @@
 pub mod Parts
 pub mod Stands
 pub mod PartsLaws
-pub mod Shown
-pub mod ShownLaws
-pub mod Steps
-pub mod StepsLaws
-pub mod EntryLaws
-pub mod Views
+pub mod JudgedLaws
+pub mod Refusals
+pub mod Content
 pub mod Examples

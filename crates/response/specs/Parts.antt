@@ -1,7 +1,8 @@
 -- Where the parts of a basic response are: each stands after the forms of the parts before it. The
 -- basic response's own content is the last octets of the response.
--- bodyAt, spanOf, partsFrom; judgedAs, judgedOf. That the octets there are the parts' forms is in
--- PartsLaws.
+-- span; responsesSize, entriesSize, responsesAt, responderSpan, entriesSpan, extensionsSpan; signedSize,
+-- signedContentAt, algorithmSize, signatureEnd, partsFrom; judgedAs, judgedOf. That the octets there are
+-- the parts' forms is in PartsLaws.
 -- Assumes nothing.
 use Prim.Native.Nat.{ℕ, _+_, _-_}
 use mathlib.Core.Bool.{cond}
@@ -11,9 +12,9 @@ use lib.ListN.{length}
 use Rattle.codec.specs.Option.{optionEnc}
 use Rattle.codec.specs.Many.{forms}
 use Rattle.layout.specs.Reading.{Signed, Basic, failed, basic}
-use Rattle.layout.specs.Kinds.{time}
-use Rattle.layout.specs.Format.{algorithmIdentifier, extensions, singleResponse, responderId, responses, signedBody, responseData, signatureBits, certificates, basicBody}
+use Rattle.layout.specs.Format.{algorithmIdentifier, extensions, singleResponse, responses, signedBody, responseData, signatureBits, certificates, basicBody}
 use Rattle.layout.specs.Read.{Outcome, reads, otherType, unfit, reading}
+use Rattle.pieces.specs.Views.{responderSize, producedSize}
 use Rattle.response.specs.declared.Span.{Span}
 use Rattle.response.specs.declared.Parts.{Parts}
 use Rattle.response.specs.declared.Judged.{Judged}
@@ -23,12 +24,6 @@ abbrev pub span : ℕ → ℕ → Span
 span at n = record { start = at; len = n }
 
 -- the parts of a signed part whose content starts at a place
-abbrev pub responderSize : Signed → ℕ
-responderSize d = length (responderId .enc (d .responder))
-
-abbrev pub producedSize : Signed → ℕ
-producedSize d = length (time .enc (d .producedAt))
-
 abbrev pub responsesSize : Signed → ℕ
 responsesSize d = length (responses .enc (d .entries))
 

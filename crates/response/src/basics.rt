@@ -2,18 +2,16 @@
 use crate::Judged;
 use crate::Parts;
 use crate::Span;
-use crate::signed;
-use crate::signed::Inside;
-use crate::tails;
-use crate::tails::Tail;
-use words::Spot;
+use pieces::Inside;
+use pieces::Tail;
+use spots::Spot;
 ghost use Prim.Native.Nat.{_+_, _≤_};
 ghost use mathlib.Core.Path.{_≡_};
 ghost use lib.ListN.{length, drop};
 ghost use Rattle.layout.specs.Format.{basicBody, basicResponse};
 ghost use Rattle.layout.specs.Read.{innerReading};
 ghost use Rattle.response.specs.Parts.{judgedAs};
-ghost use Rattle.response.specs.Views.{bodyOf};
+ghost use Rattle.response.specs.Content.{bodyOf};
 
 // A basic response's content.
 pub enum Body {
@@ -28,7 +26,7 @@ fn basic_body(s: &[u8], at: usize) -> Body
     requires { ⌜ at + length (now s) ≤ 16384 ⌝ }
     ensures { λ r. ⌜ r ≡ bodyOf at (basicBody .dec (now (s .entry))) ⌝ }
 {
-    let spot = words::expect(s, 0x30);
+    let spot = spots::expect(s, 0x30);
     match spot {
         Spot::Wrong(p) => {
             let place = at + p;
@@ -38,7 +36,7 @@ fn basic_body(s: &[u8], at: usize) -> Body
             let end = start + len;
             let content = at + start;
             let after = at + end;
-            let inside = signed::signed_body(&s[start..end]);
+            let inside = pieces::signed_body(&s[start..end]);
             match inside {
                 Inside::Broken(p) => {
                     let place = content + p;
@@ -50,7 +48,7 @@ fn basic_body(s: &[u8], at: usize) -> Body
                     len: size,
                     count,
                 } => {
-                    let tail = tails::algorithm_and_more(&s[end..]);
+                    let tail = pieces::algorithm_and_more(&s[end..]);
                     match tail {
                         Tail::Broken(p) => {
                             let place = after + p;
@@ -119,7 +117,7 @@ pub(crate) fn judge_basic(s: &[u8], from: usize) -> Judged
     requires { ⌜ (from ≤ length (now s)) × (length (now s) ≤ 16384) ⌝ }
     ensures { λ r. ⌜ r ≡ judgedAs (length (now (s .entry))) (innerReading from (basicResponse .dec (drop from (now (s .entry))))) ⌝ }
 {
-    let spot = words::expect(&s[from..], 0x30);
+    let spot = spots::expect(&s[from..], 0x30);
     match spot {
         Spot::Wrong(p) => {
             let place = from + p;

@@ -1,19 +1,13 @@
-// A response read: whether any octets at all fit document 01's layout, and where each part is.
+// A response judged: whether any octets at all fit document 01's layout, where each part is, and which
+// refusal it gives before any question is asked.
 //
-// No public function here has a requirement. A response is gone over once; nothing is copied, and a
-// part that is shown is a part of the caller's own octets.
+// No public function here has a requirement. A response is gone over once; nothing is copied.
 mod basics; // the basic response
+mod refusals; // the refusal
 mod whole; // the response as a whole
-mod entries; // the entries one by one
-mod shown; // the signed part, the signature and the refusal
-mod signed; // the signed part's content
-mod tails; // what follows the signed part
 
-pub use entries::entry_at;
-pub use shown::refusal_of;
-pub use shown::refuse;
-pub use shown::signature;
-pub use shown::signed_part;
+pub use refusals::refusal_of;
+pub use refusals::refuse;
 pub use whole::judge;
 
 // Some octets of a response: where they start, and how many they are.
@@ -62,14 +56,4 @@ pub struct Refusal {
     pub number: u8,
     // The response status, with 4; else 0.
     pub status: u8,
-}
-
-// What stands at an ordinal among the entries.
-pub enum Entry {
-    // The entry, header included: it starts at start and is len octets long.
-    At { start: usize, len: usize },
-    // There are no more entries.
-    End,
-    // Why there are none at all.
-    Refused { number: u8, status: u8 },
 }

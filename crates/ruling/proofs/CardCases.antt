@@ -19,8 +19,8 @@ use Rattle.answer.specs.declared.Answer.{Answer}
 use Rattle.search.specs.Search.{isHere, noted, isTwo, onHeader, searchFrom, searchOf}
 use Rattle.search.specs.declared.Found.{Found}
 use Rattle.search.specs.declared.Found.the-variants.{None, One, Two}
-use Rattle.ruling.specs.declared.Question.{Question}
-use Rattle.ruling.specs.EntryRuled.{headRuled}
+use Rattle.rules.specs.declared.Question.{Question}
+use Rattle.entry_ruling.specs.EntryRuled.{headRuled}
 use Rattle.ruling.specs.CardRuled.{foundRuled, cardRuled}
 
 -- what is found lies inside

@@ -10,10 +10,10 @@ use Rattle.answer.specs.declared.Answer.{Answer}
 use Rattle.search.specs.Search.{searchOf}
 use Rattle.search.specs.declared.Found.{Found}
 use Rattle.search.specs.declared.Found.the-variants.{None, One, Two}
-use Rattle.ruling.specs.declared.Question.{Question}
-use Rattle.ruling.specs.declared.opened.Opened.{Opened}
-use Rattle.ruling.specs.declared.opened.Opened.the-variants.{Refused, Clear}
-use Rattle.ruling.specs.EntryRuled.{headRuled}
+use Rattle.rules.specs.declared.Question.{Question}
+use Rattle.opened.specs.declared.Opened.{Opened}
+use Rattle.opened.specs.declared.Opened.the-variants.{Refused, Clear}
+use Rattle.entry_ruling.specs.EntryRuled.{headRuled}
 
 -- no entry is for the card, one is, or two are
 unfoldable pub foundRuled : Question → List ℕ → Found → Answer

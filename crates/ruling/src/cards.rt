@@ -1,14 +1,12 @@
 // One card (refusals 10 to 16), and the check.
-use crate::Question;
-use crate::entries;
-use crate::opened;
-use crate::opened::Opened;
-use crate::ranges;
 use answer::Answer;
+use opened::Opened;
+use rules::Question;
 use search::Found;
 ghost use mathlib.Core.Path.{_≡_};
-ghost use Rattle.ruling.specs.CardRuled.{cardRuled};
-ghost use Rattle.ruling.specs.Ruling.{answerOf};
+ghost use Rattle.rules.specs.Ruling.{answerOf};
+ghost use Rattle.opened.specs.Opened.{openedOf};
+ghost use Rattle.ruling.specs.CardRuled.{cardRuled, openedRuled};
 
 // What a response that is not refused says of the card, by the octets of its entries.
 pub fn rule_card(q: Question, part: &[u8]) -> Answer
@@ -28,7 +26,21 @@ pub fn rule_card(q: Question, part: &[u8]) -> Answer
             len,
         } => {
             let end = start + len;
-            entries::rule_entry(q, &part[start..end])
+            entry_ruling::rule_entry(q, &part[start..end])
+        }
+    }
+}
+
+// What a response says for a question whose ranges are kept: judged as a whole, then for the card.
+pub fn rule(q: Question, name: &[u8], s: &[u8]) -> Answer
+    ensures { λ r. ⌜ r ≡ openedRuled q (now (s .entry)) (openedOf q (now (name .entry)) (now (s .entry))) ⌝ }
+{
+    let opened = opened::open(q, name, s);
+    match opened {
+        Opened::Refused { number, status } => answer::refuse(number, status),
+        Opened::Clear { start, len } => {
+            let end = start + len;
+            rule_card(q, &s[start..end])
         }
     }
 }
@@ -41,12 +53,5 @@ pub fn check(q: Question, name: &[u8], s: &[u8]) -> Answer
     if !ranges::question_fits(q, name) {
         return answer::refuse(1, 0);
     }
-    let opened = opened::open(q, name, s);
-    match opened {
-        Opened::Refused { number, status } => answer::refuse(number, status),
-        Opened::Clear { start, len } => {
-            let end = start + len;
-            rule_card(q, &s[start..end])
-        }
-    }
+    rule(q, name, s)
 }

@@ -15,10 +15,10 @@ use Rattle.element.specs.Header.{headerOf}
 use Rattle.element.specs.HeaderLaws.{header-inside}
 use Rattle.element.specs.declared.Header.{Header}
 use Rattle.element.specs.declared.Header.the-variants as header
-use Rattle.words.specs.Spots.{expected}
-use Rattle.words.specs.ExpectLaws.{expected-at}
-use Rattle.words.specs.declared.Spot.{Spot}
-use Rattle.words.specs.declared.Spot.the-variants.{At, Wrong}
+use Rattle.spots.specs.Spots.{expected}
+use Rattle.spots.specs.ExpectLaws.{expected-at}
+use Rattle.spots.specs.declared.Spot.{Spot}
+use Rattle.spots.specs.declared.Spot.the-variants.{At, Wrong}
 use Rattle.entry.specs.Ids.{moved, certIn, certSpot}
 use Rattle.answer.specs.declared.Card.{Card}
 use Rattle.matching.specs.CertForm.{isCard, isFields}

@@ -12,8 +12,8 @@ use lib.Seq.{length-take-le, take-length}
 use Rattle.element.specs.Header.{headerOf}
 use Rattle.element.specs.declared.Header.{Header}
 use Rattle.element.specs.declared.Header.the-variants as header
-use Rattle.words.specs.declared.Spot.{Spot}
-use Rattle.words.specs.declared.Spot.the-variants.{At, Wrong}
+use Rattle.spots.specs.declared.Spot.{Spot}
+use Rattle.spots.specs.declared.Spot.the-variants.{At, Wrong}
 use Rattle.entry.specs.Ids.{certSpot}
 use Rattle.answer.specs.declared.Card.{Card}
 use Rattle.answer.specs.Card.{serialIn}

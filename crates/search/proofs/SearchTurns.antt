@@ -15,7 +15,7 @@ use Rattle.element.specs.Header.{headerOf}
 use Rattle.element.specs.HeaderLaws.{header-inside}
 use Rattle.element.specs.declared.Header.{Header}
 use Rattle.element.specs.declared.Header.the-variants as header
-use Rattle.words.specs.ExpectLaws.{never}
+use Rattle.spots.specs.ExpectLaws.{never}
 use Rattle.answer.specs.declared.Card.{Card}
 use Rattle.search.specs.Search.{isHere, noted, isTwo, onHeader, searchFrom, searchOf, seenOf}
 use Rattle.search.specs.SearchLaws.{none-left}

@@ -14,7 +14,7 @@ use Rattle.layout.specs.Reading.{Entry}
 use Rattle.layout.specs.Format.{singleResponse}
 use Rattle.answer.specs.declared.Card.{Card}
 use Rattle.matching.specs.Match.{isFor}
-use Rattle.words.specs.ExpectLaws.{never}
+use Rattle.spots.specs.ExpectLaws.{never}
 use Rattle.search.specs.Search.{noted, isTwo, foundFrom, foundOf, forCard}
 use Rattle.search.specs.declared.Found.{Found}
 use Rattle.search.specs.declared.Found.the-variants.{None, One, Two}

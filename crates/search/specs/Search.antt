@@ -13,9 +13,9 @@ use Rattle.element.specs.declared.Header.{Header}
 use Rattle.element.specs.declared.Header.the-variants as header
 use Rattle.layout.specs.Reading.{Entry}
 use Rattle.layout.specs.Format.{singleResponse}
-use Rattle.words.specs.Spots.{expected}
-use Rattle.words.specs.declared.Spot.{Spot}
-use Rattle.words.specs.declared.Spot.the-variants.{At, Wrong}
+use Rattle.spots.specs.Spots.{expected}
+use Rattle.spots.specs.declared.Spot.{Spot}
+use Rattle.spots.specs.declared.Spot.the-variants.{At, Wrong}
 use Rattle.entry.specs.Ids.{certSpot}
 use Rattle.answer.specs.declared.Card.{Card}
 use Rattle.matching.specs.Match.{isFor}

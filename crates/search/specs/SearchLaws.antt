@@ -22,9 +22,9 @@ use Rattle.layout.specs.Reading.{Entry}
 use Rattle.layout.specs.Limits.{HashOk}
 use Rattle.layout.specs.Format.{certBody, certId, singleBody, singleResponse}
 use Rattle.entry.specs.Ids.{certSpot}
-use Rattle.entry.specs.PartLaws.{tagged-read, field-read}
+use Rattle.ending.specs.PartLaws.{tagged-read, field-read}
 use Rattle.entry.specs.EntryLaws.{entry-header, entry-cert}
-use Rattle.words.specs.declared.Spot.the-variants.{At}
+use Rattle.spots.specs.declared.Spot.the-variants.{At}
 use Rattle.answer.specs.Card.{serialIn}
 use Rattle.answer.specs.declared.Card.{Card}
 use Rattle.matching.specs.Match.{isFor}

@@ -3,7 +3,7 @@ use crate::Found;
 use crate::Seen;
 use answer::Card;
 use element::Header;
-use words::Spot;
+use spots::Spot;
 ghost use mathlib.Core.Path.{_≡_};
 ghost use mathlib.Core.Bool.{false};
 ghost use Prim.Native.Nat.{_+_, _^_, _≤_, _<_};
@@ -16,7 +16,7 @@ fn begins(s: &[u8], name: &[u8], key: &[u8], serial: &[u8]) -> bool
     requires { ⌜ (length (now name) ≤ 127) × (length (now key) ≤ 127) × (length (now serial) ≤ 127) ⌝ }
     ensures { λ r. ⌜ r ≡ beginsWith (cardWith (now (name .entry)) (now (key .entry)) (now (serial .entry))) (now (s .entry)) ⌝ }
 {
-    let spot = words::expect(s, 0x30);
+    let spot = spots::expect(s, 0x30);
     match spot {
         Spot::Wrong(_) => false,
         Spot::At { start, len } => {
@@ -45,7 +45,7 @@ fn look(s: &[u8], name: &[u8], key: &[u8], serial: &[u8]) -> Seen
     requires { ⌜ (length (now name) ≤ 127) × (length (now key) ≤ 127) × (length (now serial) ≤ 127) ⌝ }
     ensures { λ r. ⌜ r ≡ seenOf (isHere (cardWith (now (name .entry)) (now (key .entry)) (now (serial .entry))) (now (s .entry))) (headerOf (now (s .entry))) ⌝ }
 {
-    let spot = words::expect(s, 0x30);
+    let spot = spots::expect(s, 0x30);
     match spot {
         Spot::Wrong(_) => pass(s),
         Spot::At { start, len } => {

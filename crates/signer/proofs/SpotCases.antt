@@ -11,13 +11,13 @@ use Rattle.codec.specs.ViewLaws.{fit-only-bad}
 use Rattle.codec.specs.declared.Step.the-variants.{Taken}
 use Rattle.codec.specs.declared.Fit.{Fit}
 use Rattle.codec.specs.declared.Fit.the-variants as fit
-use Rattle.words.specs.Spots.{spotOf}
-use Rattle.words.specs.Last.{Last}
-use Rattle.words.specs.SpotLaws.{spot-reads, spot-wrong}
-use Rattle.words.specs.declared.Spot.{Spot}
-use Rattle.words.specs.declared.Spot.the-variants as spot
-use Rattle.cert.specs.Judged.{filledBy}
-use Rattle.cert.specs.SeqViews.{fit-only-step}
+use Rattle.spots.specs.Spots.{spotOf}
+use Rattle.spots.specs.Last.{Last}
+use Rattle.spots.specs.SpotLaws.{spot-reads, spot-wrong}
+use Rattle.spots.specs.declared.Spot.{Spot}
+use Rattle.spots.specs.declared.Spot.the-variants as spot
+use Rattle.sequence.specs.Judged.{filledBy}
+use Rattle.sequence.specs.SeqViews.{fit-only-step}
 
 module _ (e : Element (List ℕ)) (last : Last e) (s : List ℕ) (x : Spot) (q : x ≡ spotOf (e .dec s)) where
   pub alone-wrong : (p : ℕ) → x ≡ spot.Wrong p → fit.Breaks p ≡ fitOf (onlyDec (e .dec) s)

@@ -1,7 +1,7 @@
 // Certificates.
 use codec::Fit;
 use codec::Step;
-use words::Spot;
+use spots::Spot;
 ghost use mathlib.Core.Path.{_≡_};
 ghost use Rattle.codec.specs.Sequence.{only};
 ghost use Rattle.codec.specs.Many.{many};
@@ -39,13 +39,13 @@ fn certificate_run(s: &[u8]) -> Fit
 fn read_list(s: &[u8]) -> Step
     ensures { λ r. ⌜ r ≡ stepOf (sequence certificateRun .dec (now (s .entry))) ⌝ }
 {
-    let spot = words::expect(s, 0x30);
+    let spot = spots::expect(s, 0x30);
     match spot {
         Spot::Wrong(p) => Step::Bad(p),
         Spot::At { start, len } => {
             let end = start + len;
             let body = certificate_run(&s[start..end]);
-            cert::closed(start, end, body)
+            sequence::closed(start, end, body)
         }
     }
 }
@@ -55,20 +55,20 @@ fn list_alone(s: &[u8]) -> Fit
     ensures { λ r. ⌜ r ≡ fitOf (only (sequence certificateRun) .dec (now (s .entry))) ⌝ }
 {
     let step = read_list(s);
-    cert::filled(step, s.len())
+    sequence::filled(step, s.len())
 }
 
 // certs [0]
 pub fn read_certificates(s: &[u8]) -> Step
     ensures { λ r. ⌜ r ≡ stepOf (certificates .dec (now (s .entry))) ⌝ }
 {
-    let spot = words::expect(s, 0xa0);
+    let spot = spots::expect(s, 0xa0);
     match spot {
         Spot::Wrong(p) => Step::Bad(p),
         Spot::At { start, len } => {
             let end = start + len;
             let body = list_alone(&s[start..end]);
-            cert::closed(start, end, body)
+            sequence::closed(start, end, body)
         }
     }
 }

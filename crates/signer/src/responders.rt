@@ -1,7 +1,7 @@
 // Responder ids.
 use codec::Fit;
 use codec::Step;
-use words::Spot;
+use spots::Spot;
 ghost use mathlib.Core.Path.{_≡_};
 ghost use Rattle.codec.specs.Sequence.{only};
 ghost use Rattle.codec.specs.Views.{stepOf, fitOf};
@@ -14,20 +14,20 @@ fn name_alone(s: &[u8]) -> Fit
     ensures { λ r. ⌜ r ≡ fitOf (only freeSequence .dec (now (s .entry))) ⌝ }
 {
     let step = tree::read_tree_tagged(s, 0x30, 16);
-    cert::filled(step, s.len())
+    sequence::filled(step, s.len())
 }
 
 // byName [1]
 fn read_name(s: &[u8]) -> Step
     ensures { λ r. ⌜ r ≡ stepOf (nameId .dec (now (s .entry))) ⌝ }
 {
-    let spot = words::expect(s, 0xa1);
+    let spot = spots::expect(s, 0xa1);
     match spot {
         Spot::Wrong(p) => Step::Bad(p),
         Spot::At { start, len } => {
             let end = start + len;
             let body = name_alone(&s[start..end]);
-            cert::closed(start, end, body)
+            sequence::closed(start, end, body)
         }
     }
 }
@@ -36,12 +36,12 @@ fn read_name(s: &[u8]) -> Step
 fn key_alone(s: &[u8]) -> Fit
     ensures { λ r. ⌜ r ≡ fitOf (only (string (between 20 20)) .dec (now (s .entry))) ⌝ }
 {
-    let spot = words::read_string(s, 20, 20);
+    let spot = spots::read_string(s, 20, 20);
     match spot {
         Spot::Wrong(p) => Fit::Breaks(p),
         Spot::At { start, len } => {
             let end = start + len;
-            cert::filled(Step::Taken(end), s.len())
+            sequence::filled(Step::Taken(end), s.len())
         }
     }
 }
@@ -50,13 +50,13 @@ fn key_alone(s: &[u8]) -> Fit
 fn read_key(s: &[u8]) -> Step
     ensures { λ r. ⌜ r ≡ stepOf (keyId .dec (now (s .entry))) ⌝ }
 {
-    let spot = words::expect(s, 0xa2);
+    let spot = spots::expect(s, 0xa2);
     match spot {
         Spot::Wrong(p) => Step::Bad(p),
         Spot::At { start, len } => {
             let end = start + len;
             let body = key_alone(&s[start..end]);
-            cert::closed(start, end, body)
+            sequence::closed(start, end, body)
         }
     }
 }
@@ -65,7 +65,7 @@ fn read_key(s: &[u8]) -> Step
 pub fn read_responder(s: &[u8]) -> Step
     ensures { λ r. ⌜ r ≡ stepOf (responderId .dec (now (s .entry))) ⌝ }
 {
-    if cert::starts_with(s, 0xa1) {
+    if sequence::starts_with(s, 0xa1) {
         return read_name(s);
     }
     read_key(s)

@@ -72,7 +72,7 @@ fn refusal_in(body: &[u8]) -> Verdict {
 
 // Writes a slip into a buffer, and what it holds then.
 fn slip_in(answer: Answer, out: &mut [u8]) {
-    let output = slips::write_slip(answer, out);
+    let output = slip_write::write_slip(answer, out);
     say::say_output(out, output);
 }
 
@@ -120,7 +120,7 @@ fn say_answer(kind: u64, card: Card, this: u64, next: u64) {
 
 // What a slip says, as an answer in hex.
 pub(crate) fn say_read(body: &[u8]) {
-    let answer = slips::read_slip(body);
+    let answer = slip_read::read_slip(body);
     let card = answer.card;
     let verdict = answer.verdict;
     match verdict {

@@ -1,7 +1,7 @@
 // The operations that ask for parts of a response.
 use crate::say;
-use response::Entry;
 use response::Judged;
+use show::Entry;
 
 // Why a response is refused.
 fn say_why(s: &[u8]) {
@@ -13,7 +13,7 @@ fn say_why(s: &[u8]) {
 pub(crate) fn say_signed(s: &[u8]) {
     let judged = response::judge(s);
     if let Judged::Basic(parts) = judged {
-        let part = response::signed_part(s);
+        let part = show::signed_part(s);
         let span = parts.signed;
         say::say_part(span.start, part.len());
     } else {
@@ -25,7 +25,7 @@ pub(crate) fn say_signed(s: &[u8]) {
 pub(crate) fn say_signature(s: &[u8]) {
     let judged = response::judge(s);
     if let Judged::Basic(parts) = judged {
-        let part = response::signature(s);
+        let part = show::signature(s);
         let span = parts.signature;
         say::say_part(span.start, part.len());
     } else {
@@ -38,7 +38,7 @@ pub(crate) fn say_step(body: &[u8]) {
     let number = octets::number_at(body, 0, 8);
     if let octets::Number::Is(place) = number {
         if 8 <= body.len() {
-            let entry = response::entry_at(&body[8..], place as usize);
+            let entry = show::entry_at(&body[8..], place as usize);
             match entry {
                 Entry::At { start, len } => say::say_part(start, len),
                 Entry::End => say::say(b"end\n"),

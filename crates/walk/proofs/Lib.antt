@@ -1,3 +1,1 @@
-pub mod StepCases
-pub mod Held
 pub mod Made

@@ -22,12 +22,12 @@ use denote.Steps.{only, nothing}
 use denote.Enum.Laws as EL
 use denote.Struct.Laws as LL
 use denote.Struct.Rest.{own-shut}
-use Rattle.response.specs.declared.Entry.{Entry}
-use Rattle.response.proofs.Entry as S
-use Rattle.response.proofs.Entry.Laws as S′
-use Rattle.walk.specs.declared.Handed.{Handed}
-use Rattle.walk.proofs.Handed as R
-use Rattle.walk.proofs.Handed.Laws as R′
+use Rattle.show.specs.declared.Entry.{Entry}
+use Rattle.show.proofs.Entry as S
+use Rattle.show.proofs.Entry.Laws as S′
+use Rattle.walked.specs.declared.Handed.{Handed}
+use Rattle.walked.proofs.Handed as R
+use Rattle.walked.proofs.Handed.Laws as R′
 
 -- the machine values of what a step says and of its part
 abbrev pub says-val : Entry → Val

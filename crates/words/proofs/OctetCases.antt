@@ -1,4 +1,5 @@
 -- The cases of an octet that was read: it passes a test or fails it, or is the one that is wanted.
+-- value-wrong, value-pass, value-fail; taken-wrong, taken-pass, taken-fail; fixed-wrong, fixed-same, fixed-other.
 -- Assumes nothing.
 use Prim.Native.Nat.{ℕ}
 use mathlib.Core.Path.{_≡_, refl, sym, _∙_}
@@ -15,10 +16,10 @@ use Rattle.codec.specs.Contents.{fixedRead, orStart, filledDec}
 use Rattle.codec.specs.Views.{stepOf}
 use Rattle.codec.specs.declared.Step.the-variants.{Taken, Bad}
 use Rattle.layout.specs.Words.{singleRead}
-use Rattle.words.specs.Spots.{codeOf, singleAt}
-use Rattle.words.specs.ExpectLaws.{never}
-use Rattle.words.specs.PrimitiveLaws.{other-bad, other-got}
-use Rattle.words.specs.SpotLaws.{code-got, code-bad}
+use Rattle.spots.specs.ExpectLaws.{never}
+use Rattle.spots.specs.PrimitiveLaws.{other-bad, other-got}
+use Rattle.words.specs.Codes.{codeOf, singleAt}
+use Rattle.words.specs.CodeLaws.{code-got, code-bad}
 use Rattle.words.specs.declared.Code.{Code}
 use Rattle.words.specs.declared.Code.the-variants as code
 

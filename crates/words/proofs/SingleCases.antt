@@ -1,10 +1,12 @@
 -- The cases of contents of one octet and of none, by their length; and the tests of an octet.
+-- status-high, status-low, reason-high, reason-low; wrong-code; empty-not, empty-is; single-not,
+-- single-place, single-next, single-is.
 -- Assumes nothing.
 use Prim.Native.Nat.{ℕ, _+_, _^_, _≤_, _<_}
 use native.Mathlib.Omega.{arith}
 use mathlib.Core.Path.{_≡_, refl, sym, ap, _∙_}
 use mathlib.Core.Bool.{Bool, true, false, cond, not}
-use mathlib.Core.Option.{none, some}
+use mathlib.Core.Option.{Option, none, some}
 use mathlib.Core.List.{List, [], _∷_}
 use lib.Dec.{eqb}
 use lib.ListN.{length, getD, take, drop}
@@ -13,16 +15,18 @@ use mir.Syntax.{w64}
 use mir.Val.{Fits}
 use Rattle.octets.specs.Same.{sameOf}
 use Rattle.element.specs.Header.{headerOf}
-use Rattle.codec.specs.Contents.{fixedRead}
+use Rattle.codec.specs.Tagged.{own, taggedDec}
+use Rattle.codec.specs.Contents.{fixedRead, filledDec}
 use Rattle.codec.specs.Views.{stepOf}
 use Rattle.codec.specs.declared.Step.the-variants.{Taken, Bad}
 use Rattle.layout.specs.Words.{singleRead, statusOk, reasonOk}
-use Rattle.words.specs.Spots.{expected, codeOf, singleAt, emptyAt}
-use Rattle.words.specs.ExpectLaws.{content-first, content-end, content-length}
-use Rattle.words.specs.declared.Spot.{Spot}
-use Rattle.words.specs.declared.Spot.the-variants as spot
+use Rattle.spots.specs.Spots.{expected}
+use Rattle.spots.specs.ExpectLaws.{content-first, content-end, content-length}
+use Rattle.spots.specs.PrimitiveCases.{element-wrong, element-none, element-some}
+use Rattle.spots.specs.declared.Spot.{Spot}
+use Rattle.spots.specs.declared.Spot.the-variants as spot
+use Rattle.words.specs.Codes.{codeOf, singleAt, emptyAt}
 use Rattle.words.specs.declared.Code.the-variants as code
-use Rattle.words.proofs.Primitive.{element-none, element-some}
 
 -- the tests of the octet
 negated : (b : Bool) → not b ≡ cond b false true
@@ -68,6 +72,12 @@ is-empty : (c : List ℕ) → length c ≡ 0 → fixedRead [] c ≡ some tt
 unfolding fixedRead sameOf
 is-empty [] h = refl
 is-empty (x ∷ c) h = absurd (omega arith)
+
+-- a header that is wrong
+module _ (t : ℕ) (s : List ℕ) (r : Spot) (q : r ≡ expected t (headerOf s)) where
+  pub wrong-code : (d : List ℕ → Option ℕ) (p : ℕ) → r ≡ spot.Wrong p → code.Wrong p ≡ codeOf (taggedDec own t (filledDec d) s)
+  unfolding codeOf
+  wrong-code d p f = rw (element-wrong t s r q d p f)
 
 -- by where the content is
 module _ (t : ℕ) (s : List ℕ) (r : Spot) (q : r ≡ expected t (headerOf s)) (b l : ℕ) (f : r ≡ spot.At b l) where

@@ -1,14 +1,13 @@
 // Contents of one octet, and of none.
 use crate::Code;
-use crate::Spot;
-use crate::spots;
 use codec::Step;
+use spots::Spot;
 ghost use mathlib.Core.Path.{_≡_};
 ghost use Rattle.codec.specs.Views.{stepOf};
 ghost use Rattle.layout.specs.Words.{statusOk, reasonOk};
 ghost use Rattle.layout.specs.Kinds.{enumerated};
 ghost use Rattle.layout.specs.Format.{critical, goodStatus, unknownStatus};
-ghost use Rattle.words.specs.Spots.{codeOf, singleAt, emptyAt};
+ghost use Rattle.words.specs.Codes.{codeOf, singleAt, emptyAt};
 
 // A response status: 0, 1, 2, 3, 5 or 6.
 fn status_fits(value: u8) -> bool

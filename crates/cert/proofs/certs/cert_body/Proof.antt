@@ -4,7 +4,7 @@ use borrow.Author.Needs.{needs}
 use Rattle.codec.specs.Sequence.{field, only}
 use Rattle.layout.specs.Kinds.{hash, serial}
 use Rattle.layout.specs.Format.{algorithmIdentifier, certBody}
-use Rattle.cert.specs.SeqCases.{field-wrong, field-end, field-after, named}
+use Rattle.sequence.specs.SeqCases.{field-wrong, field-end, field-after, named}
 use Rattle.cert.proofs.certs.cert_body.Statement.{statement}
 use Rattle.cert.proofs.certs.cert_body.Tie as tie
 

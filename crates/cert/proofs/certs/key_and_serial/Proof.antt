@@ -3,8 +3,8 @@
 use borrow.Author.Needs.{needs}
 use Rattle.codec.specs.Sequence.{only}
 use Rattle.layout.specs.Kinds.{hash, serial}
-use Rattle.words.specs.Last.{last-hash}
-use Rattle.cert.specs.SeqCases.{string-sum, string-end, spot-wrong, spot-after}
+use Rattle.spots.specs.Last.{last-hash}
+use Rattle.sequence.specs.SeqCases.{string-sum, string-end, spot-wrong, spot-after}
 use Rattle.cert.proofs.certs.key_and_serial.Statement.{statement}
 use Rattle.cert.proofs.certs.key_and_serial.Tie as tie
 

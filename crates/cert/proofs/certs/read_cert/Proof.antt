@@ -2,7 +2,7 @@
 -- Assumes nothing.
 use borrow.Author.Needs.{needs}
 use Rattle.layout.specs.Format.{certId}
-use Rattle.cert.specs.SeqCases.{tagged-wrong, tagged-sum, tagged-end, tagged-closed}
+use Rattle.sequence.specs.SeqCases.{tagged-wrong, tagged-sum, tagged-end, tagged-closed}
 use Rattle.cert.proofs.certs.read_cert.Statement.{statement}
 use Rattle.cert.proofs.certs.read_cert.Tie as tie
 

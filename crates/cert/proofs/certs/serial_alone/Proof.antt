@@ -1,7 +1,7 @@
 -- `cert::certs::serial_alone` meets its contract, by the serial.
 -- Assumes nothing.
 use borrow.Author.Needs.{needs}
-use Rattle.cert.specs.SeqCases.{filled-only}
+use Rattle.sequence.specs.SeqCases.{filled-only}
 use Rattle.cert.proofs.certs.serial_alone.Statement.{statement}
 use Rattle.cert.proofs.certs.serial_alone.Tie as tie
 

@@ -1,42 +1,54 @@
--- `deskcase::writes::slip_for` meets its contract: the rules are kept by every answer. Assumes nothing.
+-- `deskcase::writes::slip_for` meets its contract: refusal 1, an error response, or what is ruled. Assumes nothing.
 use borrow.Author.Needs.{needs}
-use Rattle.deskcase.proofs.SlipCases.{slip-buffer, slip-written, slip-none}
+use Rattle.deskcase.proofs.SlipCases.{slip-stands, broken-count, broken-buffer, error-count, error-buffer}
 use Rattle.deskcase.proofs.writes.slip_for.Statement.{statement}
 use Rattle.deskcase.proofs.writes.slip_for.Tie as tie
 
-ask-requires : tie.Need-ask-requires
-ask-requires c κs = search needs
+stands-requires : tie.Need-stands-requires
+stands-requires c κs = search needs
 
-write-kept-requires : tie.Need-write-kept-requires
-write-kept-requires c κs = search needs
-
-enum-known-output : tie.Need-enum-known-output
-enum-known-output c = search needs
-
-enum-told : tie.Need-enum-told
-enum-told c = search needs
+refusal-slip-requires : tie.Need-refusal-slip-requires
+refusal-slip-requires c κs = search needs
 
 same-length : tie.Need-same-length
 same-length c = search needs
 
 returns : tie.Need-returns
-returns c = (search slip-written, search slip-buffer)
+returns c = (search broken-count, search broken-buffer)
+
+error-status-requires : tie.Need-error-status-requires
+error-status-requires c κs = search needs
+
+refusal-slip-requires-2 : tie.Need-refusal-slip-requires-2
+refusal-slip-requires-2 c κs = search needs
 
 same-length-2 : tie.Need-same-length-2
 same-length-2 c = search needs
 
 returns-2 : tie.Need-returns-2
-returns-2 c = (search slip-none, search slip-buffer)
+returns-2 c = (search (error-count, c .before .before .before .before .before .before .before .before .before .before .shared-slice-known .given, c .before .before .before .before .before .before .before .before .before .shared-slice-known2 .given), search (error-buffer, c .before .before .before .before .before .before .before .before .before .before .shared-slice-known .given, c .before .before .before .before .before .before .before .before .before .shared-slice-known2 .given))
+
+slip-standing-requires : tie.Need-slip-standing-requires
+slip-standing-requires c κs = search slip-stands
+
+same-length-3 : tie.Need-same-length-3
+same-length-3 c = search needs
+
+returns-3 : tie.Need-returns-3
+returns-3 c = search needs
 
 pub slip-for-spec : {M : Type 1} → statement M
 slip-for-spec =
     tie.close
     (tie.spec
-    ask-requires
-    write-kept-requires
-    enum-known-output
-    enum-told
+    stands-requires
+    refusal-slip-requires
     same-length
     returns
+    error-status-requires
+    refusal-slip-requires-2
     same-length-2
-    returns-2)
+    returns-2
+    slip-standing-requires
+    same-length-3
+    returns-3)

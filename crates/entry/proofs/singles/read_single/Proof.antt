@@ -2,7 +2,7 @@
 -- Assumes nothing.
 use borrow.Author.Needs.{needs}
 use Rattle.layout.specs.Format.{singleResponse}
-use Rattle.cert.specs.SeqCases.{tagged-wrong, tagged-sum, tagged-end, tagged-closed}
+use Rattle.sequence.specs.SeqCases.{tagged-wrong, tagged-sum, tagged-end, tagged-closed}
 use Rattle.entry.proofs.singles.read_single.Statement.{statement}
 use Rattle.entry.proofs.singles.read_single.Tie as tie
 

@@ -2,8 +2,9 @@
 -- Assumes nothing.
 use borrow.Author.Needs.{needs}
 use Rattle.layout.specs.Format.{certId, singleBody}
-use Rattle.cert.specs.SeqCases.{field-wrong, field-end, field-after, named}
-use Rattle.entry.specs.Tails.{nextOn, thisOn, statusOn}
+use Rattle.sequence.specs.SeqCases.{field-wrong, field-end, field-after, named}
+use Rattle.ending.specs.Ends.{nextOn}
+use Rattle.entry.specs.Tails.{thisOn, statusOn}
 use Rattle.entry.proofs.singles.single_body.Statement.{statement}
 use Rattle.entry.proofs.singles.single_body.Tie as tie
 

@@ -2,7 +2,7 @@
 -- Assumes nothing.
 use borrow.Author.Needs.{needs}
 use Rattle.layout.specs.Format.{certStatus}
-use Rattle.cert.specs.SeqCases.{field-wrong, field-end, field-after}
+use Rattle.sequence.specs.SeqCases.{field-wrong, field-end, field-after}
 use Rattle.entry.specs.Tails.{thisOn, statusOn}
 use Rattle.entry.proofs.singles.status_and_more.Statement.{statement}
 use Rattle.entry.proofs.singles.status_and_more.Tie as tie

@@ -2,8 +2,9 @@
 -- Assumes nothing.
 use borrow.Author.Needs.{needs}
 use Rattle.layout.specs.Kinds.{time}
-use Rattle.cert.specs.SeqCases.{field-wrong, field-end, field-after}
-use Rattle.entry.specs.Tails.{nextOn, thisOn}
+use Rattle.sequence.specs.SeqCases.{field-wrong, field-end, field-after}
+use Rattle.ending.specs.Ends.{nextOn}
+use Rattle.entry.specs.Tails.{thisOn}
 use Rattle.entry.proofs.singles.this_and_more.Statement.{statement}
 use Rattle.entry.proofs.singles.this_and_more.Tie as tie
 

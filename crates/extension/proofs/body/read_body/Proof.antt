@@ -1,9 +1,7 @@
 -- `extension::body::read_body` meets its contract, by the OID and by what follows it.
 -- Assumes nothing.
 use borrow.Author.Needs.{needs}
-use Rattle.layout.specs.Format.{extensionBody}
-use Rattle.extension.specs.Pieces.{flagged}
-use Rattle.extension.proofs.BodyCases.{body-wrong, body-end, body-sum, body-place, body-fits, body-breaks}
+use Rattle.extension.proofs.BodyCases.{body-end, body-sum, body-wrong, body-after}
 use Rattle.extension.proofs.body.read_body.Statement.{statement}
 use Rattle.extension.proofs.body.read_body.Tie as tie
 
@@ -31,26 +29,14 @@ part-read-flagged-end c = search needs
 read-flagged-requires : tie.Need-read-flagged-requires
 read-flagged-requires c κs = search needs
 
-enum-told : tie.Need-enum-told
-enum-told c = search needs
-
-enum-known-rest : tie.Need-enum-known-rest
-enum-known-rest c = search needs
-
-add-place : tie.Need-add-place
-add-place c = search body-place
+after-requires : tie.Need-after-requires
+after-requires c κs = search needs
 
 returns : tie.Need-returns
-unfolding extensionBody
 returns c = search body-wrong
 
 returns-2 : tie.Need-returns-2
-unfolding extensionBody flagged
-returns-2 c = search body-fits
-
-returns-3 : tie.Need-returns-3
-unfolding extensionBody flagged
-returns-3 c = search body-breaks
+returns-2 c = search body-after
 
 pub read-body-spec : {M : Type 1} → statement M
 read-body-spec =
@@ -64,9 +50,6 @@ read-body-spec =
     part-read-flagged-start
     part-read-flagged-end
     read-flagged-requires
-    enum-told
-    enum-known-rest
-    add-place
+    after-requires
     returns
-    returns-2
-    returns-3)
+    returns-2)

@@ -1,13 +1,14 @@
 -- `extension::body::read_flagged` meets its contract, by the first octet, and then by TRUE and the value.
 -- Assumes nothing.
 use borrow.Author.Needs.{needs}
-use Rattle.extension.specs.Pieces.{value, flagged}
-use Rattle.extension.proofs.Around.{option-off, option-bad, option-fits, option-breaks, taken-end, taken-place}
+use Rattle.layout.specs.Format.{critical}
+use Rattle.sequence.specs.SeqCases.{field-end}
+use Rattle.extension.proofs.BodyCases.{flag-wrong, flag-after, flag-none}
 use Rattle.extension.proofs.body.read_flagged.Statement.{statement}
 use Rattle.extension.proofs.body.read_flagged.Tie as tie
 
-begins-requires : tie.Need-begins-requires
-begins-requires c κs = search needs
+starts-with-requires : tie.Need-starts-with-requires
+starts-with-requires c κs = search needs
 
 read-true-requires : tie.Need-read-true-requires
 read-true-requires c κs = search needs
@@ -16,17 +17,16 @@ enum-known-flag : tie.Need-enum-known-flag
 enum-known-flag c = search needs
 
 returns : tie.Need-returns
-unfolding flagged
-returns c = search option-bad
+returns c = search flag-wrong
 
 enum-known-flag-2 : tie.Need-enum-known-flag-2
 enum-known-flag-2 c = search needs
 
 sub-read-value : tie.Need-sub-read-value
-sub-read-value c = search taken-end
+sub-read-value c = search (field-end critical)
 
 part-read-value-start : tie.Need-part-read-value-start
-part-read-value-start c = search taken-end
+part-read-value-start c = search (field-end critical)
 
 part-read-value-end : tie.Need-part-read-value-end
 part-read-value-end c = search needs
@@ -34,35 +34,23 @@ part-read-value-end c = search needs
 read-value-requires : tie.Need-read-value-requires
 read-value-requires c κs = search needs
 
-enum-told : tie.Need-enum-told
-enum-told c = search needs
+after-requires : tie.Need-after-requires
+after-requires c κs = search needs
 
 returns-2 : tie.Need-returns-2
-unfolding value flagged
-returns-2 c = search option-fits
-
-enum-known-rest : tie.Need-enum-known-rest
-enum-known-rest c = search needs
-
-add-place : tie.Need-add-place
-add-place c = search taken-place
-
-returns-3 : tie.Need-returns-3
-unfolding value flagged
-returns-3 c = search option-breaks
+returns-2 c = search flag-after
 
 read-value-requires-2 : tie.Need-read-value-requires-2
 read-value-requires-2 c κs = search needs
 
-returns-4 : tie.Need-returns-4
-unfolding value flagged
-returns-4 c = search option-off
+returns-3 : tie.Need-returns-3
+returns-3 c = search flag-none
 
 pub read-flagged-spec : {M : Type 1} → statement M
 read-flagged-spec =
     tie.close
     (tie.spec
-    begins-requires
+    starts-with-requires
     read-true-requires
     enum-known-flag
     returns
@@ -71,10 +59,7 @@ read-flagged-spec =
     part-read-value-start
     part-read-value-end
     read-value-requires
-    enum-told
+    after-requires
     returns-2
-    enum-known-rest
-    add-place
-    returns-3
     read-value-requires-2
-    returns-4)
+    returns-3)

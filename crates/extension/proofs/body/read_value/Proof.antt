@@ -1,7 +1,8 @@
 -- `extension::body::read_value` meets its contract, by the header and by whether the value fills its holder.
 -- Assumes nothing.
 use borrow.Author.Needs.{needs}
-use Rattle.extension.proofs.BodyCases.{value-wrong, value-sum, value-filled}
+use Rattle.sequence.specs.SeqCases.{string-sum}
+use Rattle.extension.proofs.BodyCases.{value-wrong, value-filled}
 use Rattle.extension.proofs.body.read_value.Statement.{statement}
 use Rattle.extension.proofs.body.read_value.Tie as tie
 
@@ -15,10 +16,10 @@ enum-known-value-2 : tie.Need-enum-known-value-2
 enum-known-value-2 c = search needs
 
 add-end : tie.Need-add-end
-add-end c = search value-sum
+add-end c = search string-sum
 
-fills-requires : tie.Need-fills-requires
-fills-requires c κs = search needs
+filled-requires : tie.Need-filled-requires
+filled-requires c κs = search needs
 
 returns : tie.Need-returns
 returns c = search value-wrong
@@ -34,6 +35,6 @@ read-value-spec =
     enum-known-value
     enum-known-value-2
     add-end
-    fills-requires
+    filled-requires
     returns
     returns-2)

@@ -2,7 +2,7 @@
 -- Assumes nothing.
 use borrow.Author.Needs.{needs}
 use Rattle.signer.specs.Run.{certificateRun}
-use Rattle.cert.specs.SeqCases.{filled-only}
+use Rattle.sequence.specs.SeqCases.{filled-only}
 use Rattle.layout.specs.Kinds.{sequence}
 use Rattle.signer.proofs.certificates.list_alone.Statement.{statement}
 use Rattle.signer.proofs.certificates.list_alone.Tie as tie

@@ -2,7 +2,7 @@
 -- Assumes nothing.
 use borrow.Author.Needs.{needs}
 use Rattle.signer.specs.Run.{certificateRun}
-use Rattle.cert.specs.SeqCases.{tagged-wrong, tagged-sum, tagged-end, tagged-closed}
+use Rattle.sequence.specs.SeqCases.{tagged-wrong, tagged-sum, tagged-end, tagged-closed}
 use Rattle.signer.proofs.certificates.read_list.Statement.{statement}
 use Rattle.signer.proofs.certificates.read_list.Tie as tie
 

@@ -2,8 +2,8 @@
 -- Assumes nothing.
 use borrow.Author.Needs.{needs}
 use Rattle.signer.proofs.SpotCases.{alone-wrong, alone-filled}
-use Rattle.cert.specs.SeqCases.{spot-sum}
-use Rattle.words.specs.Last.{last-string}
+use Rattle.sequence.specs.SeqCases.{spot-sum}
+use Rattle.spots.specs.Last.{last-string}
 use Rattle.layout.specs.Kinds.{string}
 use Rattle.layout.specs.Words.{between}
 use Rattle.signer.proofs.responders.key_alone.Statement.{statement}

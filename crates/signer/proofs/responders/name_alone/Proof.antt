@@ -1,7 +1,7 @@
 -- `signer::responders::name_alone` meets its contract, by the element and its holder's size.
 -- Assumes nothing.
 use borrow.Author.Needs.{needs}
-use Rattle.cert.specs.SeqCases.{filled-only}
+use Rattle.sequence.specs.SeqCases.{filled-only}
 use Rattle.layout.specs.Kinds.{freeSequence}
 use Rattle.signer.proofs.responders.name_alone.Statement.{statement}
 use Rattle.signer.proofs.responders.name_alone.Tie as tie

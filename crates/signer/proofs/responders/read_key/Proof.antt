@@ -1,7 +1,7 @@
 -- `signer::responders::read_key` meets its contract, by the header and the content.
 -- Assumes nothing.
 use borrow.Author.Needs.{needs}
-use Rattle.cert.specs.SeqCases.{tagged-wrong, tagged-sum, tagged-end, tagged-closed}
+use Rattle.sequence.specs.SeqCases.{tagged-wrong, tagged-sum, tagged-end, tagged-closed}
 use Rattle.layout.specs.Format.{keyId}
 use Rattle.layout.specs.Kinds.{string}
 use Rattle.layout.specs.Words.{between}

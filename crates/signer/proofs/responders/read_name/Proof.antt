@@ -1,7 +1,7 @@
 -- `signer::responders::read_name` meets its contract, by the header and the content.
 -- Assumes nothing.
 use borrow.Author.Needs.{needs}
-use Rattle.cert.specs.SeqCases.{tagged-wrong, tagged-sum, tagged-end, tagged-closed}
+use Rattle.sequence.specs.SeqCases.{tagged-wrong, tagged-sum, tagged-end, tagged-closed}
 use Rattle.layout.specs.Format.{nameId}
 use Rattle.layout.specs.Kinds.{freeSequence}
 use Rattle.codec.specs.Sequence.{only}

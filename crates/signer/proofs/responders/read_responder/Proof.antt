@@ -1,7 +1,7 @@
 -- `signer::responders::read_responder` meets its contract, by the first octet.
 -- Assumes nothing.
 use borrow.Author.Needs.{needs}
-use Rattle.cert.specs.SeqCases.{choice-first, choice-second, named-element}
+use Rattle.sequence.specs.SeqCases.{choice-first, choice-second, named-element}
 use Rattle.layout.specs.Format.{responderId}
 use Rattle.signer.proofs.responders.read_responder.Statement.{statement}
 use Rattle.signer.proofs.responders.read_responder.Tie as tie

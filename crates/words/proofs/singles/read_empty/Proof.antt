@@ -1,8 +1,8 @@
 -- `words::singles::read_empty` meets its contract, by the header and the length of the content.
 -- Assumes nothing.
 use borrow.Author.Needs.{needs}
-use Rattle.words.specs.Spots.{emptyAt}
-use Rattle.words.proofs.Primitive.{wrong-step}
+use Rattle.spots.specs.PrimitiveCases.{wrong-step}
+use Rattle.words.specs.Codes.{emptyAt}
 use Rattle.words.proofs.SingleCases.{empty-not, empty-is}
 use Rattle.words.proofs.singles.read_empty.Statement.{statement}
 use Rattle.words.proofs.singles.read_empty.Tie as tie

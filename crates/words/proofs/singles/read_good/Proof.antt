@@ -2,7 +2,7 @@
 -- Assumes nothing.
 use borrow.Author.Needs.{needs}
 use Rattle.layout.specs.Format.{goodStatus}
-use Rattle.words.specs.Spots.{emptyAt}
+use Rattle.words.specs.Codes.{emptyAt}
 use Rattle.words.proofs.singles.read_good.Statement.{statement}
 use Rattle.words.proofs.singles.read_good.Tie as tie
 

@@ -1,9 +1,8 @@
 -- `words::singles::read_single` meets its contract, by the header and the length of the content.
 -- Assumes nothing.
 use borrow.Author.Needs.{needs}
-use Rattle.words.specs.Spots.{singleAt}
-use Rattle.words.proofs.Primitive.{wrong-code}
-use Rattle.words.proofs.SingleCases.{single-not, single-place, single-next, single-is}
+use Rattle.words.specs.Codes.{singleAt}
+use Rattle.words.proofs.SingleCases.{wrong-code, single-not, single-place, single-next, single-is}
 use Rattle.words.proofs.singles.read_single.Statement.{statement}
 use Rattle.words.proofs.singles.read_single.Tie as tie
 

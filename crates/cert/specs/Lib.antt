@@ -1,4 +1,0 @@
-pub mod Judged
-pub mod SeqViews
-pub mod SeqCases
-pub mod Usual

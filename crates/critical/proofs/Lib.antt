@@ -1,0 +1,2 @@
+pub mod StrangeCases
+pub mod StrangeAround

@@ -1,0 +1,3 @@
+pub mod Strange
+pub mod StrangeLaws
+pub mod Examples

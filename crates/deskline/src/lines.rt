@@ -1,0 +1,39 @@
+// The program's line: the slip of the answer to its input, as hex.
+ghost use mathlib.Core.Path.{_≡_};
+ghost use mathlib.Core.Bool.{cond};
+ghost use lib.Dec.{ltb};
+ghost use lib.ListN.{length};
+ghost use Rattle.octets.specs.Buffer.{putIn};
+ghost use Rattle.slip.specs.Slip.{slipOf};
+ghost use Rattle.question.specs.Asked.{deskOf};
+ghost use Rattle.question.specs.Line.{questionEnd, lineOf};
+
+// Where the question of an input ends: after 353 octets, or where the input does.
+fn question_end(input: &[u8]) -> usize
+    ensures { λ r. ⌜ r ≡ questionEnd (length (now (input .entry))) ⌝ }
+{
+    if input.len() < 353 {
+        return input.len();
+    }
+    353
+}
+
+// Writes the slip of the answer to an input, as `slip_for` does.
+fn desk_slip(input: &[u8], out: &mut [u8]) -> usize
+    ensures { λ r. ⌜ r ≡ cond (ltb (length (now (out .entry))) (length (slipOf (deskOf (now (input .entry)))))) 0 (length (slipOf (deskOf (now (input .entry))))) ⌝ }
+    ensures { λ _. ⌜ now (out .exit) ≡ putIn (now (out .entry)) 0 (slipOf (deskOf (now (input .entry)))) ⌝ }
+{
+    let end = question_end(input);
+    deskcase::slip_for(&input[..end], &input[end..], out)
+}
+
+// Writes the line of an input at the start of a buffer: how many octets, or 0 where there is no room
+// for them.
+pub fn line_for(input: &[u8], out: &mut [u8]) -> usize
+    ensures { λ r. ⌜ r ≡ cond (ltb (length (now (out .entry))) (length (lineOf (now (input .entry))))) 0 (length (lineOf (now (input .entry)))) ⌝ }
+    ensures { λ _. ⌜ now (out .exit) ≡ putIn (now (out .entry)) 0 (lineOf (now (input .entry))) ⌝ }
+{
+    let mut slip = [0u8; 87];
+    let size = desk_slip(input, &mut slip);
+    hex::hex_line(&slip[..size], out)
+}

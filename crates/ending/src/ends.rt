@@ -1,0 +1,36 @@
+// The last parts, to the end of what is lent.
+use crate::nexts;
+use codec::Fit;
+use codec::Step;
+ghost use mathlib.Core.Path.{_≡_};
+ghost use Rattle.codec.specs.Views.{fitOf};
+ghost use Rattle.ending.specs.Ends.{extensionsOn, nextOn};
+
+// Maybe extensions, and nothing more.
+pub fn extensions_maybe(s: &[u8]) -> Fit
+    ensures { λ r. ⌜ r ≡ fitOf (extensionsOn .dec (now (s .entry))) ⌝ }
+{
+    if sequence::starts_with(s, 0xa1) {
+        let step = extensions::read_extensions(s);
+        return sequence::filled(step, s.len());
+    }
+    sequence::filled(Step::Taken(0), s.len())
+}
+
+// Maybe nextUpdate, then maybe extensions.
+pub fn next_and_more(s: &[u8]) -> Fit
+    ensures { λ r. ⌜ r ≡ fitOf (nextOn .dec (now (s .entry))) ⌝ }
+{
+    if sequence::starts_with(s, 0xa0) {
+        let until = nexts::judge_next(s);
+        match until {
+            Step::Bad(p) => Fit::Breaks(p),
+            Step::Taken(next) => {
+                let rest = extensions_maybe(&s[next..]);
+                sequence::after(next, s.len(), rest)
+            }
+        }
+    } else {
+        extensions_maybe(s)
+    }
+}

@@ -1,0 +1,2 @@
+pub mod EntryRuled
+pub mod EntryRuledLaws

@@ -1,0 +1,4 @@
+pub mod ReasonLaws
+pub mod StandingCases
+pub mod LookLaws
+pub mod LookCases

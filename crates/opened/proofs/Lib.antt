@@ -1,0 +1,2 @@
+pub mod SignCases
+pub mod OpenCases

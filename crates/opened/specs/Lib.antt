@@ -1,0 +1,4 @@
+pub mod SignerIn
+pub mod SignerInLaws
+pub mod Opened
+pub mod OpenedLaws

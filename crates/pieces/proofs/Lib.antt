@@ -1,0 +1,3 @@
+pub mod TailCases
+pub mod ListCases
+pub mod SignedCases

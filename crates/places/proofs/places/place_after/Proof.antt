@@ -1,0 +1,43 @@
+-- `places::places::place_after` meets its contract, by what response says of the place.
+-- Assumes nothing.
+use borrow.Author.Needs.{needs}
+use Rattle.places.proofs.StepCases.{place-sum, place-entry, place-end, place-refused}
+use Rattle.places.proofs.places.place_after.Statement.{statement}
+use Rattle.places.proofs.places.place_after.Tie as tie
+
+entry-at-requires : tie.Need-entry-at-requires
+entry-at-requires c κs = search needs
+
+enum-told : tie.Need-enum-told
+enum-told c = search needs
+
+add-later : tie.Need-add-later
+add-later c = search place-sum
+
+enum-told-2 : tie.Need-enum-told-2
+enum-told-2 c = search needs
+
+enum-told-3 : tie.Need-enum-told-3
+enum-told-3 c = search needs
+
+returns : tie.Need-returns
+returns c = search place-entry
+
+returns-2 : tie.Need-returns-2
+returns-2 c = search place-end
+
+returns-3 : tie.Need-returns-3
+returns-3 c = search place-refused
+
+pub place-after-spec : {M : Type 1} → statement M
+place-after-spec =
+    tie.close
+    (tie.spec
+    entry-at-requires
+    enum-told
+    add-later
+    enum-told-2
+    enum-told-3
+    returns
+    returns-2
+    returns-3)

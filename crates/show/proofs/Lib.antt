@@ -1,0 +1,2 @@
+pub mod ShownCases
+pub mod EntryCases

@@ -1,0 +1,20 @@
+// What is shown of a response: its signed part, its signature, and its entries one by one.
+//
+// No public function here has a requirement. Nothing is copied: a part that is shown is a part of the
+// caller's own octets, and an entry is told by its place in them.
+mod entries; // the entries one by one
+mod parts; // the signed part and the signature
+
+pub use entries::entry_at;
+pub use parts::signature;
+pub use parts::signed_part;
+
+// What stands at an ordinal among the entries.
+pub enum Entry {
+    // The entry, header included: it starts at start and is len octets long.
+    At { start: usize, len: usize },
+    // There are no more entries.
+    End,
+    // Why there are none at all.
+    Refused { number: u8, status: u8 },
+}

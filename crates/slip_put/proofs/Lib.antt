@@ -1,0 +1,3 @@
+pub mod PutCases
+pub mod VerdictCases
+pub mod WriteCases

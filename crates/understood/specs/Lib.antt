@@ -1,0 +1,2 @@
+pub mod StrangePlace
+pub mod StrangeInLaws

@@ -1,0 +1,29 @@
+-- A step of a walk, by the response and the place: the octets that it hands out, and the place after it.
+-- partIn, partOf; placeIn, placeOf. What a step says is response's entryOf.
+-- Assumes nothing.
+use Prim.Native.Nat.{ℕ, _+_}
+use mathlib.Core.List.{List, []}
+use lib.ListN.{take, drop}
+use Rattle.show.specs.Shown.{entryOf}
+use Rattle.show.specs.declared.Entry.{Entry}
+use Rattle.show.specs.declared.Entry.the-variants as entry
+
+-- an entry's octets, header included; nothing at the end or with a refusal
+unfoldable pub partIn : List ℕ → Entry → List ℕ
+partIn s (entry.At start n) = take n (drop start s)
+partIn s entry.End = []
+partIn s (entry.Refused n c) = []
+
+-- of the entry at a place
+unfoldable pub partOf : List ℕ → ℕ → List ℕ
+partOf s k = partIn s (entryOf s k)
+
+-- one more entry is handed out; at the end and with a refusal the place stays
+unfoldable pub placeIn : Entry → ℕ → ℕ
+placeIn (entry.At start n) k = k + 1
+placeIn entry.End k = k
+placeIn (entry.Refused n c) k = k
+
+-- the place after a step from a place
+unfoldable pub placeOf : List ℕ → ℕ → ℕ
+placeOf s k = placeIn (entryOf s k) k
