@@ -1,1 +1,2 @@
+pub mod EndCases
 pub mod NextCases

@@ -10,11 +10,24 @@ ghost use Rattle.ending.specs.Ends.{extensionsOn, nextOn};
 pub fn extensions_maybe(s: &[u8]) -> Fit
     ensures { λ r. ⌜ r ≡ fitOf (extensionsOn .dec (now (s .entry))) ⌝ }
 {
-    if sequence::starts_with(s, 0xa1) {
-        let step = extensions::read_extensions(s);
-        return sequence::filled(step, s.len());
+    if s.len() == 0 {
+        return Fit::Fits;
     }
-    sequence::filled(Step::Taken(0), s.len())
+    if s[0] != 0xa1 {
+        return Fit::Breaks(0);
+    }
+    let step = extensions::read_extensions(s);
+    sequence::filled(step, s.len())
+}
+
+// The same where there is mostly nothing, which is told first.
+fn extensions_seldom(s: &[u8]) -> Fit
+    ensures { λ r. ⌜ r ≡ fitOf (extensionsOn .dec (now (s .entry))) ⌝ }
+{
+    if s.len() == 0 {
+        return Fit::Fits;
+    }
+    extensions_maybe(s)
 }
 
 // Maybe nextUpdate, then maybe extensions.
@@ -26,7 +39,7 @@ pub fn next_and_more(s: &[u8]) -> Fit
         match until {
             Step::Bad(p) => Fit::Breaks(p),
             Step::Taken(next) => {
-                let rest = extensions_maybe(&s[next..]);
+                let rest = extensions_seldom(&s[next..]);
                 sequence::after(next, s.len(), rest)
             }
         }

@@ -1,10 +1,10 @@
 -- The cases of a CertID's octets compared with fields: the last octet, then one of two heads.
--- last-none; long-name, long-key, long-serial, other-last, plain-same, null-same.
+-- last-none; long-name, long-key, long-serial, other-last, null-same, plain-same.
 -- The comparison with one head is in FormCases. Assumes nothing.
 use Prim.Native.Nat.{ℕ, _+_, _-_, _≤_, _<_}
 use native.Mathlib.Omega.{arith}
 use mathlib.Core.Path.{_≡_, refl, sym, ap, _∙_}
-use mathlib.Core.Bool.{Bool, true, false, or-false}
+use mathlib.Core.Bool.{Bool, true, false, _||_, or-false}
 use mathlib.Core.List.{List, [], _∷_, _++_}
 use lib.ListN.{length, getD, length-append}
 use borrow.Author.Tests.{le-leb, lt-leb}
@@ -53,6 +53,10 @@ last-form head name key serial h =
 
 -- ---- one of two heads
 
+either : (a b : Bool) → b ≡ true → a || (b || false) ≡ true
+either true b t = refl
+either false b t = rw t
+
 module _ (name key serial part : List ℕ) where
   pub long-name : 127 < length name → false ≡ isFields name key serial part
   unfolding isFields
@@ -83,11 +87,11 @@ module _ (name key serial part : List ℕ) where
             let e = other-end (λ i. d (p ∙ i ∙ sym q)) in
             sym (fields-card name key serial part n k s ∙ rw (e plainHead, e nullHead))
 
-        module _ (r : Bool) (e : r ≡ sameOf part (cardForm plainHead name key serial)) where
-          pub plain-same : r ≡ true → true ≡ isFields name key serial part
+        module _ (r : Bool) (e : r ≡ sameOf part (cardForm nullHead name key serial)) where
+          pub null-same : r ≡ true → true ≡ isFields name key serial part
           unfolding isCardOctets
-          plain-same t = sym (fields-card name key serial part n k s ∙ rw (← e, t))
+          null-same t = sym (fields-card name key serial part n k s ∙ either (sameOf part (cardForm plainHead name key serial)) (sameOf part (cardForm nullHead name key serial)) (sym e ∙ t))
 
-          pub null-same : r ≡ false → (w : Bool) → w ≡ sameOf part (cardForm nullHead name key serial) → w ≡ isFields name key serial part
+          pub plain-same : r ≡ false → (w : Bool) → w ≡ sameOf part (cardForm plainHead name key serial) → w ≡ isFields name key serial part
           unfolding isCardOctets
-          null-same t w i = sym (fields-card name key serial part n k s ∙ simp (← e, t, ← i, or-false))
+          plain-same t w i = sym (fields-card name key serial part n k s ∙ simp (← e, t, ← i, or-false))

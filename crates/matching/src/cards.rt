@@ -62,7 +62,7 @@ fn has_form(part: &[u8], head: &[u8], name: &[u8], key: &[u8], serial: &[u8]) ->
 
 // Whether these octets are the content of a CertID with these fields: SHA-1 without parameters or with
 // 05 00, both hashes and the serial. Fields of more than 127 octets are nobody's. The serial's last octet
-// comes first: in it the cards of one issuer differ most.
+// comes first: in it the cards of one issuer differ most. Then 05 00, which most responders write.
 pub fn is_for(part: &[u8], name: &[u8], key: &[u8], serial: &[u8]) -> bool
     ensures { λ r. ⌜ r ≡ isFields (now (name .entry)) (now (key .entry)) (now (serial .entry)) (now (part .entry)) ⌝ }
 {
@@ -78,12 +78,12 @@ pub fn is_for(part: &[u8], name: &[u8], key: &[u8], serial: &[u8]) -> bool
     if last(part) != last(serial) {
         return false;
     }
-    let plain = b"\x30\x07\x06\x05\x2b\x0e\x03\x02\x1a";
-    if has_form(part, plain, name, key, serial) {
+    let null = b"\x30\x09\x06\x05\x2b\x0e\x03\x02\x1a\x05\x00";
+    if has_form(part, null, name, key, serial) {
         return true;
     }
-    let null = b"\x30\x09\x06\x05\x2b\x0e\x03\x02\x1a\x05\x00";
-    has_form(part, null, name, key, serial)
+    let plain = b"\x30\x07\x06\x05\x2b\x0e\x03\x02\x1a";
+    has_form(part, plain, name, key, serial)
 }
 
 // How many octets of a field of twenty are the serial's.

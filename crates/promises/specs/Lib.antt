@@ -1,5 +1,3 @@
-pub mod Functions
-pub mod Writers
 pub mod OneReading
 pub mod Answers
 pub mod Refusals

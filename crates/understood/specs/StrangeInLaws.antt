@@ -1,7 +1,7 @@
 -- Critical extensions that are not understood, by the octets of extensions and by their reading: the
--- place that crate extension finds is there exactly where some extension is so.
+-- place that crate critical finds is there exactly where some extension is so.
 -- strange-response, strange-entry. The definitions are in StrangePlace, in Signer of crate rules and in Strange of
--- crate extension.
+-- crate critical.
 -- Assumes nothing.
 use Prim.Native.Nat.{ℕ, _^_, _<_}
 use mathlib.Core.Path.{_≡_, refl, sym, ap, _∙_}

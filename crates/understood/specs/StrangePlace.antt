@@ -1,4 +1,4 @@
--- The OIDs that are understood, as crate extension is told them, and whether it finds a place.
+-- The OIDs that are understood, as crate critical is told them, and whether it finds a place.
 -- responseKnown, entryKnown, isPlace. That this is strangeIn of crate rules, of the reading, is in
 -- StrangeInLaws.
 -- Assumes nothing.

@@ -1,14 +1,18 @@
 -- `ending::ends::extensions_maybe` meets its contract, by the first octet.
 -- Assumes nothing.
 use borrow.Author.Needs.{needs}
-use Rattle.layout.specs.Format.{extensions}
-use Rattle.sequence.specs.SeqCases.{filled-optional, optional-none}
-use Rattle.ending.specs.Ends.{extensionsOn}
+use Rattle.ending.proofs.EndCases.{ends-empty, ends-other, ends-there}
 use Rattle.ending.proofs.ends.extensions_maybe.Statement.{statement}
 use Rattle.ending.proofs.ends.extensions_maybe.Tie as tie
 
-starts-with-requires : tie.Need-starts-with-requires
-starts-with-requires c κs = search needs
+returns : tie.Need-returns
+returns c = search ends-empty
+
+shared-slice-read-if2 : tie.Need-shared-slice-read-if2
+shared-slice-read-if2 c = search needs
+
+returns-2 : tie.Need-returns-2
+returns-2 c = search ends-other
 
 read-extensions-requires : tie.Need-read-extensions-requires
 read-extensions-requires c κs = search needs
@@ -16,24 +20,16 @@ read-extensions-requires c κs = search needs
 filled-requires : tie.Need-filled-requires
 filled-requires c κs = search needs
 
-returns : tie.Need-returns
-unfolding extensionsOn
-returns c = search (filled-optional extensions)
-
-filled-requires-2 : tie.Need-filled-requires-2
-filled-requires-2 c κs = search needs
-
-returns-2 : tie.Need-returns-2
-unfolding extensionsOn
-returns-2 c = search (optional-none extensions)
+returns-3 : tie.Need-returns-3
+returns-3 c = search ends-there
 
 pub extensions-maybe-spec : {M : Type 1} → statement M
 extensions-maybe-spec =
     tie.close
     (tie.spec
-    starts-with-requires
+    returns
+    shared-slice-read-if2
+    returns-2
     read-extensions-requires
     filled-requires
-    returns
-    filled-requires-2
-    returns-2)
+    returns-3)

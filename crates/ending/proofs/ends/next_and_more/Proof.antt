@@ -19,23 +19,23 @@ enum-known-until c = search needs
 enum-known-until-2 : tie.Need-enum-known-until-2
 enum-known-until-2 c = search needs
 
-sub-extensions-maybe : tie.Need-sub-extensions-maybe
-sub-extensions-maybe c = search (field-end nextUpdate)
+sub-extensions-seldom : tie.Need-sub-extensions-seldom
+sub-extensions-seldom c = search (field-end nextUpdate)
 
-part-extensions-maybe-start : tie.Need-part-extensions-maybe-start
-part-extensions-maybe-start c = search (field-end nextUpdate)
+part-extensions-seldom-start : tie.Need-part-extensions-seldom-start
+part-extensions-seldom-start c = search (field-end nextUpdate)
 
-part-extensions-maybe-end : tie.Need-part-extensions-maybe-end
-part-extensions-maybe-end c = search needs
+part-extensions-seldom-end : tie.Need-part-extensions-seldom-end
+part-extensions-seldom-end c = search needs
 
-extensions-maybe-requires : tie.Need-extensions-maybe-requires
-extensions-maybe-requires c κs = search needs
+extensions-seldom-requires : tie.Need-extensions-seldom-requires
+extensions-seldom-requires c κs = search needs
 
 after-requires : tie.Need-after-requires
 after-requires c κs = search needs
 
-extensions-maybe-requires-2 : tie.Need-extensions-maybe-requires-2
-extensions-maybe-requires-2 c κs = search needs
+extensions-maybe-requires : tie.Need-extensions-maybe-requires
+extensions-maybe-requires c κs = search needs
 
 returns : tie.Need-returns
 unfolding nextOn
@@ -57,12 +57,12 @@ next-and-more-spec =
     judge-next-requires
     enum-known-until
     enum-known-until-2
-    sub-extensions-maybe
-    part-extensions-maybe-start
-    part-extensions-maybe-end
-    extensions-maybe-requires
+    sub-extensions-seldom
+    part-extensions-seldom-start
+    part-extensions-seldom-end
+    extensions-seldom-requires
     after-requires
-    extensions-maybe-requires-2
+    extensions-maybe-requires
     returns
     returns-2
     returns-3)

@@ -27,13 +27,13 @@ has-form-requires : tie.Need-has-form-requires
 has-form-requires c κs = search needs
 
 returns-5 : tie.Need-returns-5
-returns-5 c = search plain-same
+returns-5 c = search null-same
 
 has-form-requires-2 : tie.Need-has-form-requires-2
 has-form-requires-2 c κs = search needs
 
 returns-6 : tie.Need-returns-6
-returns-6 c = search null-same
+returns-6 c = search plain-same
 
 pub is-for-spec : {M : Type 1} → statement M
 is-for-spec =

@@ -1,0 +1,10 @@
+pub mod Functions
+pub mod Writers
+pub mod Settled
+pub mod SettledOctets
+pub mod SettledWords
+pub mod SettledResponse
+pub mod SettledRuling
+pub mod SettledDesk
+pub mod SettledWalk
+pub mod SettledC

@@ -1,0 +1,117 @@
+-- Settled contracts of requests, slips and the desk.
+-- One theorem for each public function, CRATE-FUNCTION-settled, crate by crate:
+-- fields, errors, request, slip, slip_put, slip_write, slip_read, hex, deskcase, deskline.
+-- Of a function that writes, CRATE-FUNCTION-buffer says the same of the buffer. Of a returned part, its octets are said.
+-- What it is to be settled is in Settled. Assumes nothing.
+use denote.Ref.{now}
+use Rattle.contracts.specs.Settled.{Settled, settled, Settles, settles}
+use Rattle.fields.proofs.hash_at.Reads as fields-hash-at
+use Rattle.fields.proofs.value_at.Reads as fields-value-at
+use Rattle.fields.proofs.card_in.Reads as fields-card-in
+use Rattle.fields.proofs.room_for.Reads as fields-room-for
+use Rattle.errors.proofs.error_status.Reads as errors-error-status
+use Rattle.request.proofs.write_request.Reads as request-write-request
+use Rattle.slip.proofs.has_card.Reads as slip-has-card
+use Rattle.slip.proofs.size_of.Reads as slip-size-of
+use Rattle.slip.proofs.slip_size.Reads as slip-slip-size
+use Rattle.slip.proofs.slip_fits.Reads as slip-slip-fits
+use Rattle.slip_put.proofs.write_with.Reads as slip-put-write-with
+use Rattle.slip_write.proofs.write_slip.Reads as slip-write-write-slip
+use Rattle.slip_write.proofs.write_kept.Reads as slip-write-write-kept
+use Rattle.slip_read.proofs.read_slip.Reads as slip-read-read-slip
+use Rattle.hex.proofs.hex.Reads as hex-hex
+use Rattle.hex.proofs.hex_line.Reads as hex-hex-line
+use Rattle.deskcase.proofs.ask.Reads as deskcase-ask
+use Rattle.deskcase.proofs.slip_for.Reads as deskcase-slip-for
+use Rattle.deskline.proofs.line_for.Reads as deskline-line-for
+
+-- ── crate fields ──
+pub fields-hash-at-settled : Settled fields-hash-at.Asked fields-hash-at.Learnt
+fields-hash-at-settled = settled _ _ _ (λ k a. tt) (λ k a z e p. p)
+
+pub fields-value-at-settled : Settled fields-value-at.Asked fields-value-at.Learnt
+fields-value-at-settled = settled _ _ _ (λ k a. tt) (λ k a z e p. p)
+
+pub fields-card-in-settled : Settled fields-card-in.Asked fields-card-in.Learnt
+fields-card-in-settled = settled _ _ _ (λ k a. tt) (λ k a z e p. p)
+
+pub fields-room-for-settled : Settled fields-room-for.Asked fields-room-for.Learnt
+fields-room-for-settled = settled _ _ _ (λ k a. tt) (λ k a z e p. p)
+
+-- ── crate errors ──
+pub errors-error-status-settled : Settled errors-error-status.Asked errors-error-status.Learnt
+errors-error-status-settled = settled _ _ _ (λ k a. tt) (λ k a z e p. p)
+
+-- ── crate request ──
+pub request-write-request-settled : Settled request-write-request.Asked request-write-request.Learnt
+request-write-request-settled = settled _ _ _ (λ k a. tt) (λ k a z e p. p .0)
+
+pub request-write-request-buffer : Settles request-write-request.Asked request-write-request.Learnt (λ k z e. now (e .1 .0))
+request-write-request-buffer = settles _ _ (λ k z e. now (e .1 .0)) _ (λ k a. tt) (λ k a z e p. p .1)
+
+-- ── crate slip ──
+pub slip-has-card-settled : Settled slip-has-card.Asked slip-has-card.Learnt
+slip-has-card-settled = settled _ _ _ (λ k a. tt) (λ k a z e p. p)
+
+pub slip-size-of-settled : Settled slip-size-of.Asked slip-size-of.Learnt
+slip-size-of-settled = settled _ _ _ (λ k a. tt) (λ k a z e p. p)
+
+pub slip-slip-size-settled : Settled slip-slip-size.Asked slip-slip-size.Learnt
+slip-slip-size-settled = settled _ _ _ (λ k a. tt) (λ k a z e p. p)
+
+pub slip-slip-fits-settled : Settled slip-slip-fits.Asked slip-slip-fits.Learnt
+slip-slip-fits-settled = settled _ _ _ (λ k a. tt) (λ k a z e p. p)
+
+-- ── crate slip_put ──
+pub slip-put-write-with-settled : Settled slip-put-write-with.Asked slip-put-write-with.Learnt
+slip-put-write-with-settled = settled _ _ _ (λ k a. tt) (λ k a z e p. p .0)
+
+pub slip-put-write-with-buffer : Settles slip-put-write-with.Asked slip-put-write-with.Learnt (λ k z e. now (e .1 .1 .0))
+slip-put-write-with-buffer = settles _ _ (λ k z e. now (e .1 .1 .0)) _ (λ k a. tt) (λ k a z e p. p .1)
+
+-- ── crate slip_write ──
+pub slip-write-write-slip-settled : Settled slip-write-write-slip.Asked slip-write-write-slip.Learnt
+slip-write-write-slip-settled = settled _ _ _ (λ k a. tt) (λ k a z e p. p .0)
+
+pub slip-write-write-slip-buffer : Settles slip-write-write-slip.Asked slip-write-write-slip.Learnt (λ k z e. now (e .1 .0))
+slip-write-write-slip-buffer = settles _ _ (λ k z e. now (e .1 .0)) _ (λ k a. tt) (λ k a z e p. p .1)
+
+pub slip-write-write-kept-settled : Settled slip-write-write-kept.Asked slip-write-write-kept.Learnt
+slip-write-write-kept-settled = settled _ _ _ (λ k a. tt) (λ k a z e p. p .0)
+
+pub slip-write-write-kept-buffer : Settles slip-write-write-kept.Asked slip-write-write-kept.Learnt (λ k z e. now (e .1 .0))
+slip-write-write-kept-buffer = settles _ _ (λ k z e. now (e .1 .0)) _ (λ k a. tt) (λ k a z e p. p .1)
+
+-- ── crate slip_read ──
+pub slip-read-read-slip-settled : Settled slip-read-read-slip.Asked slip-read-read-slip.Learnt
+slip-read-read-slip-settled = settled _ _ _ (λ k a. tt) (λ k a z e p. p)
+
+-- ── crate hex ──
+pub hex-hex-settled : Settled hex-hex.Asked hex-hex.Learnt
+hex-hex-settled = settled _ _ _ (λ k a. tt) (λ k a z e p. p .0)
+
+pub hex-hex-buffer : Settles hex-hex.Asked hex-hex.Learnt (λ k z e. now (e .1 .0))
+hex-hex-buffer = settles _ _ (λ k z e. now (e .1 .0)) _ (λ k a. tt) (λ k a z e p. p .1)
+
+pub hex-hex-line-settled : Settled hex-hex-line.Asked hex-hex-line.Learnt
+hex-hex-line-settled = settled _ _ _ (λ k a. tt) (λ k a z e p. p .0)
+
+pub hex-hex-line-buffer : Settles hex-hex-line.Asked hex-hex-line.Learnt (λ k z e. now (e .1 .0))
+hex-hex-line-buffer = settles _ _ (λ k z e. now (e .1 .0)) _ (λ k a. tt) (λ k a z e p. p .1)
+
+-- ── crate deskcase ──
+pub deskcase-ask-settled : Settled deskcase-ask.Asked deskcase-ask.Learnt
+deskcase-ask-settled = settled _ _ _ (λ k a. tt) (λ k a z e p. p)
+
+pub deskcase-slip-for-settled : Settled deskcase-slip-for.Asked deskcase-slip-for.Learnt
+deskcase-slip-for-settled = settled _ _ _ (λ k a. tt) (λ k a z e p. p .0)
+
+pub deskcase-slip-for-buffer : Settles deskcase-slip-for.Asked deskcase-slip-for.Learnt (λ k z e. now (e .1 .1 .0))
+deskcase-slip-for-buffer = settles _ _ (λ k z e. now (e .1 .1 .0)) _ (λ k a. tt) (λ k a z e p. p .1)
+
+-- ── crate deskline ──
+pub deskline-line-for-settled : Settled deskline-line-for.Asked deskline-line-for.Learnt
+deskline-line-for-settled = settled _ _ _ (λ k a. tt) (λ k a z e p. p .0)
+
+pub deskline-line-for-buffer : Settles deskline-line-for.Asked deskline-line-for.Learnt (λ k z e. now (e .1 .0))
+deskline-line-for-buffer = settles _ _ (λ k z e. now (e .1 .0)) _ (λ k a. tt) (λ k a z e p. p .1)
