@@ -1,15 +1,13 @@
 -- What reading knows of how many octets it has.
--- put-inside, kept-inside; more-inside, end-inside; end-counted; line-inside, line-counted.
+-- put-inside, kept-inside; more-inside, end-inside; end-counted.
 -- Assumes nothing.
 use Prim.Native.Nat.{ℕ, _+_, _≤_}
 use native.Mathlib.Omega.{arith}
 use mathlib.Core.Path.{_≡_, refl, sym, subst, _∙_}
 use mathlib.Core.List.{List}
 use mathlib.Core.Bool.{Bool, true, false, cond}
-use lib.Dec.{ltb}
 use lib.ListN.{length, take}
 use lib.Seq.{length-take-le}
-use borrow.Author.Tests.{ltb-false}
 use Rattle.octets.specs.Buffer.{roomFor, putIn, putAnswer}
 use Rattle.octets.specs.BufferLaws.{room-true, put-in-length}
 use Rattle.octets.specs.declared.Written.{Written}
@@ -46,15 +44,3 @@ module _ (input : Input) (size n : ℕ) (h : Inside input size) where
 -- the octets that were read are there
 pub end-counted : (s : List ℕ) (input : Input) (n : ℕ) → Inside input (length s) → input ≡ End n → n ≡ length (take n s)
 end-counted s input n h e = sym (length-take-le n s (end-inside input (length s) n h e))
-
--- a line that was written is in the buffer
-module _ (out new line : List ℕ) (n : ℕ) (q : n ≡ cond (ltb (length out) (length new)) 0 (length new)) (e : line ≡ putIn out 0 new) where
-  pub line-inside : n ≤ length line
-  line-inside = rw (e, put-in-length out 0 new) (go (ltb (length out) (length new)) refl q)
-    where
-      go : (b : Bool) → ltb (length out) (length new) ≡ b → n ≡ cond b 0 (length new) → n ≤ length out
-      go true i z = omega arith
-      go false i z = omega (arith, ltb-false (length out) (length new) i)
-
-  pub line-counted : n ≡ length (take n line)
-  line-counted = sym (length-take-le n line line-inside)

@@ -1,6 +1,6 @@
 -- `desk::say_line` is safe. Assumes nothing.
 use borrow.Author.Needs.{needs, length-unmapped}
-use Rattle.desk.proofs.Cases.{line-inside, line-counted}
+use Rattle.deskline.specs.LineLaws.{line-inside, line-counted}
 use Rattle.desk.proofs.say_line.Statement.{statement}
 use Rattle.desk.proofs.say_line.Tie as tie
 

@@ -1,6 +1,6 @@
 -- `trial::say_desk` is safe. Assumes nothing.
 use borrow.Author.Needs.{needs, length-unmapped}
-use Rattle.trial.proofs.Cases.{line-inside, line-counted}
+use Rattle.deskline.specs.LineLaws.{line-inside, line-counted}
 use Rattle.trial.proofs.say_desk.Statement.{statement}
 use Rattle.trial.proofs.say_desk.Tie as tie
 
