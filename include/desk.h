@@ -1,12 +1,15 @@
 /*
  * desk.h: what an OCSP response says about one card at one time, for programs in C.
  *
- *   desk_request    writes the request for a card
- *   desk_signed     shows the part of a response that is signed
- *   desk_signature  shows the signature
- *   desk_check      says what a response means for a question
- *   desk_slip       says whether octets are a slip
- *   desk_entry      shows the entry at an ordinal
+ *   desk_request       writes the request for a card
+ *   desk_refusal       says whether a response can be judged at all, and if not why
+ *   desk_signed        shows the part of a response that is signed
+ *   desk_algorithm     shows the AlgorithmIdentifier of its signature
+ *   desk_signature     shows the signature
+ *   desk_certificates  shows the certificates that the responder sent along
+ *   desk_check         says what a response means for a question
+ *   desk_slip          says whether octets are a slip
+ *   desk_entry         shows the entry at an ordinal
  *
  * Every function is proved to meet its contract: it ends with a defined answer for any octets and
  * any lengths, it reads and writes nothing outside what it is lent, and what it answers is what the
@@ -16,13 +19,16 @@
  * What a caller of every function owes, since no function can test it:
  *   - a pointer to octets is valid for as many octets as the length beside it says. It is not NULL,
  *     also where that length is 0;
- *   - what a function writes (`slip`, `out`, `from`, `len`) overlaps nothing else that it is lent;
+ *   - what a function writes (`slip`, `out`, `status`, `from`, `len`) overlaps nothing else that it is
+ *     lent;
  *   - no other thread changes what is lent while the call lasts.
  *
- * Limits: a response of more than 16,384 octets is refused before it is read. Stack: under 3 KiB, seen at the deepest response (free elements 16 deep); leave 8 KiB.
+ * Limits: a response of more than 16,384 octets is refused before it is read. Stack: under 4 KiB
+ * (tools/stack measures it on a response as full and as deep as the layout allows); leave 8 KiB.
  *
- * To link (x86-64 Linux): make the archive with `rt staticlib desk_c`, then
- *     cc -I include program.c target/staticlib/libdesk_c.a
+ * To link (x86-64 Linux): `tools/install PREFIX` puts archive, header and a pkg-config file where C
+ * programs look for them, and then
+ *     cc program.c $(pkg-config --cflags --libs desk)
  * The archive needs nothing but the C library.
  *
  * docs/INTEGRATORS.md says which facts a caller has to find out, and what to do with each answer;
@@ -141,23 +147,46 @@ extern "C" {
 size_t desk_request(const uint8_t *card, size_t clen, uint8_t *out, size_t outlen);
 
 /*
+ * Says whether a response fits the layout and is a basic one.
+ *
+ * Returns 0 where it does: then the functions below show its parts, and desk_check goes on to the
+ * question. Else returns the number of the refusal, 2 to 5. Sets `*status` to the response's status
+ * with 4 (1, 2, 3, 5 or 6), else to 0.
+ */
+size_t desk_refusal(const uint8_t *response, size_t rlen, size_t *status);
+
+/*
  * Shows the signed part of a response, header included: the octets over which its signature is made.
  *
  * Returns 0 and the place of the part: it is the `*len` octets at `response + *from`. They are the
- * caller's own octets, nothing is copied. Returns the number of a refusal, 2 to 5, and sets `*from`
- * and `*len` to 0.
+ * caller's own octets, nothing is copied. Returns the number of a refusal, 2 to 5, and an empty part,
+ * `*from` and `*len` both 0; desk_refusal says the status that goes with 4.
  *
- * Returning 0 says that the whole response fits the layout. So the signature's AlgorithmIdentifier
- * begins where the signed part ends.
+ * Returning 0 says that the whole response fits the layout. The parts outside the signed one are
+ * shown by desk_algorithm, desk_signature and desk_certificates.
  */
 size_t desk_signed(const uint8_t *response, size_t rlen, size_t *from, size_t *len);
 
 /*
+ * Shows the AlgorithmIdentifier of the signature, header included: its OID, then its parameters, if
+ * any. Otherwise as desk_signed.
+ */
+size_t desk_algorithm(const uint8_t *response, size_t rlen, size_t *from, size_t *len);
+
+/*
  * Shows the signature: the content of its BIT STRING without the leading 00. Otherwise as
- * desk_signed. Where the response holds certificates, they begin where the signature ends: A0
- * holding a SEQUENCE of 0 to 8 certificates. Else the response ends there.
+ * desk_signed.
  */
 size_t desk_signature(const uint8_t *response, size_t rlen, size_t *from, size_t *len);
+
+/*
+ * Shows the certificates in a response: 0 to 8 of them one after the other, each with its header,
+ * without the A0 and the SEQUENCE around them. Where the response has none, the part is empty, `*from`
+ * and `*len` both 0. Otherwise as desk_signed.
+ *
+ * They are not signed, and nothing says that the signer's is among them.
+ */
+size_t desk_certificates(const uint8_t *response, size_t rlen, size_t *from, size_t *len);
 
 /*
  * Says what a response means for a question.

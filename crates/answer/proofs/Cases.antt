@@ -1,5 +1,6 @@
 -- What the code knows at each return and in each turn, and what follows there.
--- one-zero, one-other; zero-next, zero-end; field-long, field-short, counted, field-serial, field-fill; card-name, card-key,
+-- one-zero, one-other; zero-next, zero-end; fill-next, fill-other, fill-end; field-long, field-short, counted, field-serial,
+-- field-fill; card-name, card-key,
 -- card-serial, card-size.
 -- Assumes nothing.
 use Prim.Native.Nat.{ℕ, suc, _+_, _-_, _<_, _≤_}
@@ -46,6 +47,23 @@ module _ (s : List ℕ) (i : ℕ) (z : Bool) (p : allZero s ≡ cond z (allZero 
   pub zero-end : length s ≤ i → z ≡ allZero s
   unfolding allZero
   zero-end h = sym (p ∙ rw (drop-of-length-le s h) (whole z))
+
+-- the same where the octets before are zeros
+module _ (s : List ℕ) (i : ℕ) (p : allZero s ≡ allZero (drop i s)) where
+  -- one more zero
+  pub fill-next : i < length s → getD s i 0 ≡ 0 → allZero s ≡ allZero (drop (i + 1) s)
+  unfolding allZero
+  fill-next h e = p ∙ rw (drop-cons s i 0 h, add-one i, eq-eqb (getD s i 0) 0 e)
+
+  -- an octet that is not zero
+  pub fill-other : i < length s → (getD s i 0 ≡ 0 → ⊥) → false ≡ allZero s
+  unfolding allZero
+  fill-other h e = sym (p ∙ rw (drop-cons s i 0 h, ne-eqb (getD s i 0) 0 e))
+
+  -- at the end
+  pub fill-end : length s ≤ i → true ≡ allZero s
+  unfolding allZero
+  fill-end h = sym (p ∙ rw (drop-of-length-le s h))
 
 -- ---- a serial in its field
 

@@ -33,19 +33,19 @@ unfolding allZero
 zero-start s = refl
 
 module _ (s : List ℕ) (i : ℕ) (p : allZero (take i s) ≡ true) where
-  module _ (z : Bool) (e : z ≡ allZero (take (i + 64 - i) (drop i s))) where
-    block : z ≡ allZero (take 64 (drop i s))
-    block = let h : i + 64 - i ≡ 64 = omega arith in rw h at e
+  module _ (z : Bool) (e : z ≡ allZero (take (i + 128 - i) (drop i s))) where
+    block : z ≡ allZero (take 128 (drop i s))
+    block = let h : i + 128 - i ≡ 128 = omega arith in rw h at e
 
     -- a block of zeros more
-    pub zero-grow : not z ≡ false → allZero (take (i + 64) s) ≡ true
-    zero-grow h = rw (take-add i 64 s, zero-append (take i s) (take 64 (drop i s)), p, ← block) (not-false z h)
+    pub zero-grow : not z ≡ false → allZero (take (i + 128) s) ≡ true
+    zero-grow h = rw (take-add i 128 s, zero-append (take i s) (take 128 (drop i s)), p, ← block) (not-false z h)
 
     -- a block that is not all zeros
     pub zero-broken : not z ≡ true → false ≡ allZero s
     zero-broken h =
-        let rest : allZero (drop i s) ≡ cond (allZero (take 64 (drop i s))) (allZero (drop 64 (drop i s))) false =
-        ap allZero (sym (take-append-drop 64 (drop i s))) ∙ zero-append (take 64 (drop i s)) (drop 64 (drop i s)) in
+        let rest : allZero (drop i s) ≡ cond (allZero (take 128 (drop i s))) (allZero (drop 128 (drop i s))) false =
+        ap allZero (sym (take-append-drop 128 (drop i s))) ∙ zero-append (take 128 (drop i s)) (drop 128 (drop i s)) in
         sym (ap allZero (sym (take-append-drop i s)) ∙ zero-append (take i s) (drop i s) ∙ rw (p, rest, ← block, not-true z h))
 
   -- a last part that begins at the place or before it decides

@@ -41,24 +41,38 @@ fn each_zero(s: &[u8]) -> bool
     zero
 }
 
-// Whether all of these octets are zeros, as a fill must be: by blocks of 64 octets, the last of which
+// Whether all of these octets are zeros, as a fill must be: by blocks of 128 octets, the last of which
 // may begin in the one before it.
 pub fn all_zero(s: &[u8]) -> bool
     ensures { λ r. ⌜ r ≡ allZero (now (s .entry)) ⌝ }
 {
-    if s.len() < 64 {
+    if s.len() < 128 {
         return each_zero(s);
     }
-    let last = s.len() - 64;
+    let last = s.len() - 128;
     let mut i = 0;
     while i < last {
-        let end = i + 64;
+        let end = i + 128;
         if !each_zero(&s[i..end]) {
             return false;
         }
-        i += 64;
+        i += 128;
     }
     each_zero(&s[last..])
+}
+
+// The same of a serial's fill, which is short: the loop ends at the first octet that is not zero.
+fn fill_zero(s: &[u8]) -> bool
+    ensures { λ r. ⌜ r ≡ allZero (now (s .entry)) ⌝ }
+{
+    let mut at = 0;
+    while at < s.len() {
+        if s[at] != 0 {
+            return false;
+        }
+        at += 1;
+    }
+    true
 }
 
 // Whether a serial of this size stands in its field: at most 20 octets, by the serial rule, and zeros
@@ -75,7 +89,7 @@ pub fn field_fits(size: usize, field: &[u8]) -> bool
     if !content::serial_fits(&field[..size]) {
         return false;
     }
-    all_zero(&field[size..])
+    fill_zero(&field[size..])
 }
 
 // Whether the card's serial keeps the serial rule and its fill is zeros.

@@ -6,4 +6,6 @@ pub mod DateLaws
 pub mod MomentLaws
 pub mod FormLaws
 pub mod TimeLaws
+pub mod Plain
+pub mod PlainLaws
 pub mod Examples

@@ -1,5 +1,7 @@
 pub mod Functions
 pub mod Writers
+pub mod CFunctions
+pub mod ReadBack
 pub mod Settled
 pub mod SettledOctets
 pub mod SettledWords

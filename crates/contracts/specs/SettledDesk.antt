@@ -1,6 +1,6 @@
 -- Settled contracts of requests, slips and the desk.
 -- One theorem for each public function, CRATE-FUNCTION-settled, crate by crate:
--- fields, errors, request, slip, slip_put, slip_write, slip_read, hex, deskcase, deskline.
+-- fields, errors, request, slip, slip_write, slip_read, hex, intake, deskcase, deskline.
 -- Of a function that writes, CRATE-FUNCTION-buffer says the same of the buffer. Of a returned part, its octets are said.
 -- What it is to be settled is in Settled. Assumes nothing.
 use denote.Ref.{now}
@@ -15,13 +15,12 @@ use Rattle.slip.proofs.has_card.Reads as slip-has-card
 use Rattle.slip.proofs.size_of.Reads as slip-size-of
 use Rattle.slip.proofs.slip_size.Reads as slip-slip-size
 use Rattle.slip.proofs.slip_fits.Reads as slip-slip-fits
-use Rattle.slip_put.proofs.write_with.Reads as slip-put-write-with
 use Rattle.slip_write.proofs.write_slip.Reads as slip-write-write-slip
-use Rattle.slip_write.proofs.write_kept.Reads as slip-write-write-kept
+use Rattle.slip_write.proofs.write_unjudged.Reads as slip-write-write-unjudged
 use Rattle.slip_read.proofs.read_slip.Reads as slip-read-read-slip
 use Rattle.hex.proofs.hex.Reads as hex-hex
 use Rattle.hex.proofs.hex_line.Reads as hex-hex-line
-use Rattle.deskcase.proofs.ask.Reads as deskcase-ask
+use Rattle.intake.proofs.keep.Reads as intake-keep
 use Rattle.deskcase.proofs.slip_for.Reads as deskcase-slip-for
 use Rattle.deskline.proofs.line_for.Reads as deskline-line-for
 
@@ -62,13 +61,6 @@ slip-slip-size-settled = settled _ _ _ (λ k a. tt) (λ k a z e p. p)
 pub slip-slip-fits-settled : Settled slip-slip-fits.Asked slip-slip-fits.Learnt
 slip-slip-fits-settled = settled _ _ _ (λ k a. tt) (λ k a z e p. p)
 
--- ── crate slip_put ──
-pub slip-put-write-with-settled : Settled slip-put-write-with.Asked slip-put-write-with.Learnt
-slip-put-write-with-settled = settled _ _ _ (λ k a. tt) (λ k a z e p. p .0)
-
-pub slip-put-write-with-buffer : Settles slip-put-write-with.Asked slip-put-write-with.Learnt (λ k z e. now (e .1 .1 .0))
-slip-put-write-with-buffer = settles _ _ (λ k z e. now (e .1 .1 .0)) _ (λ k a. tt) (λ k a z e p. p .1)
-
 -- ── crate slip_write ──
 pub slip-write-write-slip-settled : Settled slip-write-write-slip.Asked slip-write-write-slip.Learnt
 slip-write-write-slip-settled = settled _ _ _ (λ k a. tt) (λ k a z e p. p .0)
@@ -76,11 +68,11 @@ slip-write-write-slip-settled = settled _ _ _ (λ k a. tt) (λ k a z e p. p .0)
 pub slip-write-write-slip-buffer : Settles slip-write-write-slip.Asked slip-write-write-slip.Learnt (λ k z e. now (e .1 .0))
 slip-write-write-slip-buffer = settles _ _ (λ k z e. now (e .1 .0)) _ (λ k a. tt) (λ k a z e p. p .1)
 
-pub slip-write-write-kept-settled : Settled slip-write-write-kept.Asked slip-write-write-kept.Learnt
-slip-write-write-kept-settled = settled _ _ _ (λ k a. tt) (λ k a z e p. p .0)
+pub slip-write-write-unjudged-settled : Settled slip-write-write-unjudged.Asked slip-write-write-unjudged.Learnt
+slip-write-write-unjudged-settled = settled _ _ _ (λ k a. tt) (λ k a z e p. p .0)
 
-pub slip-write-write-kept-buffer : Settles slip-write-write-kept.Asked slip-write-write-kept.Learnt (λ k z e. now (e .1 .0))
-slip-write-write-kept-buffer = settles _ _ (λ k z e. now (e .1 .0)) _ (λ k a. tt) (λ k a z e p. p .1)
+pub slip-write-write-unjudged-buffer : Settles slip-write-write-unjudged.Asked slip-write-write-unjudged.Learnt (λ k z e. now (e .1 .0))
+slip-write-write-unjudged-buffer = settles _ _ (λ k z e. now (e .1 .0)) _ (λ k a. tt) (λ k a z e p. p .1)
 
 -- ── crate slip_read ──
 pub slip-read-read-slip-settled : Settled slip-read-read-slip.Asked slip-read-read-slip.Learnt
@@ -99,10 +91,14 @@ hex-hex-line-settled = settled _ _ _ (λ k a. tt) (λ k a z e p. p .0)
 pub hex-hex-line-buffer : Settles hex-hex-line.Asked hex-hex-line.Learnt (λ k z e. now (e .1 .0))
 hex-hex-line-buffer = settles _ _ (λ k z e. now (e .1 .0)) _ (λ k a. tt) (λ k a z e p. p .1)
 
--- ── crate deskcase ──
-pub deskcase-ask-settled : Settled deskcase-ask.Asked deskcase-ask.Learnt
-deskcase-ask-settled = settled _ _ _ (λ k a. tt) (λ k a z e p. p)
+-- ── crate intake ──
+pub intake-keep-settled : Settled intake-keep.Asked intake-keep.Learnt
+intake-keep-settled = settled _ _ _ (λ k a. tt) (λ k a z e p. p .0)
 
+pub intake-keep-buffer : Settles intake-keep.Asked intake-keep.Learnt (λ k z e. now (e .0))
+intake-keep-buffer = settles _ _ (λ k z e. now (e .0)) _ (λ k a. tt) (λ k a z e p. p .1)
+
+-- ── crate deskcase ──
 pub deskcase-slip-for-settled : Settled deskcase-slip-for.Asked deskcase-slip-for.Learnt
 deskcase-slip-for-settled = settled _ _ _ (λ k a. tt) (λ k a z e p. p .0)
 
@@ -114,4 +110,4 @@ pub deskline-line-for-settled : Settled deskline-line-for.Asked deskline-line-fo
 deskline-line-for-settled = settled _ _ _ (λ k a. tt) (λ k a z e p. p .0)
 
 pub deskline-line-for-buffer : Settles deskline-line-for.Asked deskline-line-for.Learnt (λ k z e. now (e .1 .0))
-deskline-line-for-buffer = settles _ _ (λ k z e. now (e .1 .0)) _ (λ k a. tt) (λ k a z e p. p .1)
+deskline-line-for-buffer = settles _ _ (λ k z e. now (e .1 .0)) _ (λ k a. tt) (λ k a z e p. p .1 .0)

@@ -18,6 +18,7 @@ use Rattle.element.proofs.put_header.Reads as element-put-header
 use Rattle.content.proofs.oid_fits.Reads as content-oid-fits
 use Rattle.content.proofs.serial_fits.Reads as content-serial-fits
 use Rattle.calendar.proofs.read_time.Reads as calendar-read-time
+use Rattle.calendar.proofs.seconds_of.Reads as calendar-seconds-of
 use Rattle.calendar.proofs.time_fits.Reads as calendar-time-fits
 use Rattle.freshness.proofs.judge_times.Reads as freshness-judge-times
 
@@ -72,6 +73,9 @@ content-serial-fits-settled = settled _ _ _ (λ k a. tt) (λ k a z e p. p)
 -- ── crate calendar ──
 pub calendar-read-time-settled : Settled calendar-read-time.Asked calendar-read-time.Learnt
 calendar-read-time-settled = settled _ _ _ (λ k a. tt) (λ k a z e p. p)
+
+pub calendar-seconds-of-settled : Settled calendar-seconds-of.Asked calendar-seconds-of.Learnt
+calendar-seconds-of-settled = settled _ _ _ (λ k a. tt) (λ k a z e p. p)
 
 pub calendar-time-fits-settled : Settled calendar-time-fits.Asked calendar-time-fits.Learnt
 calendar-time-fits-settled = settled _ _ _ (λ k a. tt) (λ k a z e p. p)

@@ -1,6 +1,6 @@
 -- Settled contracts of the check.
 -- One theorem for each public function, CRATE-FUNCTION-settled, crate by crate:
--- answer, matching, search, ranges, understood, opened, entry_ruling, ruling.
+-- answer, matching, search, ranges, understood, opened, ruling.
 -- Of a function that writes, CRATE-FUNCTION-buffer says the same of the buffer. Of a returned part, its octets are said.
 -- What it is to be settled is in Settled. Assumes nothing.
 use Rattle.contracts.specs.Settled.{Settled, settled}
@@ -17,9 +17,6 @@ use Rattle.ranges.proofs.question_fits.Reads as ranges-question-fits
 use Rattle.understood.proofs.strange_in_response.Reads as understood-strange-in-response
 use Rattle.understood.proofs.strange_in_entry.Reads as understood-strange-in-entry
 use Rattle.opened.proofs.open.Reads as opened-open
-use Rattle.entry_ruling.proofs.rule_entry.Reads as entry-ruling-rule-entry
-use Rattle.ruling.proofs.rule_card.Reads as ruling-rule-card
-use Rattle.ruling.proofs.rule.Reads as ruling-rule
 use Rattle.ruling.proofs.check.Reads as ruling-check
 
 -- ── crate answer ──
@@ -67,16 +64,6 @@ understood-strange-in-entry-settled = settled _ _ _ (λ k a. tt) (λ k a z e p. 
 pub opened-open-settled : Settled opened-open.Asked opened-open.Learnt
 opened-open-settled = settled _ _ _ (λ k a. tt) (λ k a z e p. p)
 
--- ── crate entry_ruling ──
-pub entry-ruling-rule-entry-settled : Settled entry-ruling-rule-entry.Asked entry-ruling-rule-entry.Learnt
-entry-ruling-rule-entry-settled = settled _ _ _ (λ k a. tt) (λ k a z e p. p)
-
 -- ── crate ruling ──
-pub ruling-rule-card-settled : Settled ruling-rule-card.Asked ruling-rule-card.Learnt
-ruling-rule-card-settled = settled _ _ _ (λ k a. tt) (λ k a z e p. p)
-
-pub ruling-rule-settled : Settled ruling-rule.Asked ruling-rule.Learnt
-ruling-rule-settled = settled _ _ _ (λ k a. tt) (λ k a z e p. p)
-
 pub ruling-check-settled : Settled ruling-check.Asked ruling-check.Learnt
 ruling-check-settled = settled _ _ _ (λ k a. tt) (λ k a z e p. p)

@@ -1,8 +1,7 @@
 -- Settled contracts of the walk. Its functions over a walk are proved by hand, and of such a function no `Learnt` is passed
 -- on: so each contract's own clause is shown to be a plain claim, in every model of the program logic, and the claim settled.
--- Claim, Plain; CRATE-FUNCTION-plain and CRATE-FUNCTION-settled of start, step, part, moved and next, of next also
--- walk-next-part and walk-next-buffer; places-part-at-settled, places-place-after-settled and steps-handed-at-settled,
--- as elsewhere.
+-- Claim, Plain; CRATE-FUNCTION-plain and CRATE-FUNCTION-settled of start and next, of next also walk-next-part and
+-- walk-next-buffer; walk-step-from-settled, places-step-at-settled and places-part-in-settled, as elsewhere.
 -- What it is to be settled is in Settled. Assumes nothing.
 use mathlib.Core.Path.{_≡_, refl}
 use base.Logic.{emp}
@@ -12,14 +11,11 @@ use contract.Monad.{fact}
 use denote.Ref.{now}
 use denote.Triple.Clauses.{Ended, AtExit, Clauses}
 use Rattle.walked.specs.Walked.{startOf, sayOf, handOf, movedOf}
-use Rattle.places.proofs.part_at.Reads as places-part-at
-use Rattle.places.proofs.place_after.Reads as places-place-after
+use Rattle.places.proofs.step_at.Reads as places-step-at
+use Rattle.places.proofs.part_in.Reads as places-part-in
 use Rattle.walk.proofs.start as walk-start
-use Rattle.steps.proofs.step as steps-step
-use Rattle.steps.proofs.part as steps-part
-use Rattle.steps.proofs.moved as steps-moved
 use Rattle.walk.proofs.next as walk-next
-use Rattle.steps.proofs.handed_at.Reads as steps-handed-at
+use Rattle.walk.proofs.step_from.Reads as walk-step-from
 use Rattle.contracts.specs.Settled.{Settled, settled, Settles, settles}
 
 module _ (T : Ended) where
@@ -44,36 +40,6 @@ walk-start-plain w k a g = (refl, λ z e. refl)
 pub walk-start-settled : Settled (λ k a. Unit {0}) startLearnt
 walk-start-settled = settled _ _ _ (λ k a. tt) (λ k a z e p. p)
 
--- ── step: what it says ──
-abbrev pub stepLearnt : Claim steps-step.ended
-stepLearnt k a z e = z ≡ sayOf (a .0)
-
-pub steps-step-plain : Plain steps-step.ended (λ w. steps-step.clauses (w .𝓤) (w .H) (w .𝓖 .A) (w .𝓜 .mem) (w .𝓡 .run)) stepLearnt
-steps-step-plain w k a g = (refl, λ z e. refl)
-
-pub steps-step-settled : Settled (λ k a. Unit {0}) stepLearnt
-steps-step-settled = settled _ _ _ (λ k a. tt) (λ k a z e p. p)
-
--- ── part: the octets that it hands out ──
-abbrev pub partLearnt : Claim steps-part.ended
-partLearnt k a z e = now z ≡ handOf (a .0)
-
-pub steps-part-plain : Plain steps-part.ended (λ w. steps-part.clauses (w .𝓤) (w .H) (w .𝓖 .A) (w .𝓜 .mem) (w .𝓡 .run)) partLearnt
-steps-part-plain w k a g = (refl, λ z e. refl)
-
-pub steps-part-settled : Settles (λ k a. Unit {0}) partLearnt (λ k z e. now z)
-steps-part-settled = settles _ _ (λ k z e. now z) _ (λ k a. tt) (λ k a z e p. p)
-
--- ── moved: the walk after it ──
-abbrev pub movedLearnt : Claim steps-moved.ended
-movedLearnt k a z e = z ≡ movedOf (a .0)
-
-pub steps-moved-plain : Plain steps-moved.ended (λ w. steps-moved.clauses (w .𝓤) (w .H) (w .𝓖 .A) (w .𝓜 .mem) (w .𝓡 .run)) movedLearnt
-steps-moved-plain w k a g = (refl, λ z e. refl)
-
-pub steps-moved-settled : Settled (λ k a. Unit {0}) movedLearnt
-steps-moved-settled = settled _ _ _ (λ k a. tt) (λ k a z e p. p)
-
 -- ── next: what a step of a lent walk says, the octets that it hands out, and the walk then ──
 abbrev pub nextLearnt : Claim walk-next.ended
 nextLearnt k a z e = (z .says ≡ sayOf (now (a .0))) × (now (z .part) ≡ handOf (now (a .0))) × (now (e .0) ≡ movedOf (now (a .0)))
@@ -90,13 +56,13 @@ walk-next-part = settles _ _ (λ k z e. now (z .part)) _ (λ k a. tt) (λ k a z 
 pub walk-next-buffer : Settles (λ k a. Unit {0}) nextLearnt (λ k z e. now (e .0))
 walk-next-buffer = settles _ _ (λ k z e. now (e .0)) _ (λ k a. tt) (λ k a z e p. p .2)
 
--- ── part_at, place_after: a step by the response and the place ──
-pub places-part-at-settled : Settles places-part-at.Asked places-part-at.Learnt (λ k z e. now z)
-places-part-at-settled = settles _ _ (λ k z e. now z) _ (λ k a. tt) (λ k a z e p. p)
+-- ── step_from: a step at a place, as numbers ──
+pub walk-step-from-settled : Settled walk-step-from.Asked walk-step-from.Learnt
+walk-step-from-settled = settled _ _ _ (λ k a. tt) (λ k a z e p. p)
 
-pub places-place-after-settled : Settled places-place-after.Asked places-place-after.Learnt
-places-place-after-settled = settled _ _ _ (λ k a. tt) (λ k a z e p. p)
+-- ── step_at, part_in: a step by the response and the place, and its part by what was said ──
+pub places-step-at-settled : Settled places-step-at.Asked places-step-at.Learnt
+places-step-at-settled = settled _ _ _ (λ k a. tt) (λ k a z e p. p)
 
--- ── handed_at: what a walk at a place hands out ──
-pub steps-handed-at-settled : Settles steps-handed-at.Asked steps-handed-at.Learnt (λ k z e. now z)
-steps-handed-at-settled = settles _ _ (λ k z e. now z) _ (λ k a. tt) (λ k a z e p. p)
+pub places-part-in-settled : Settles places-part-in.Asked places-part-in.Learnt (λ k z e. now z)
+places-part-in-settled = settles _ _ (λ k z e. now z) _ (λ k a. tt) (λ k a z e p. p)

@@ -1,5 +1,5 @@
 -- The functions that the promises speak of, continued: those that write, the slip reader, a step of a walk, and the desk.
--- write-request, write-slip, read-slip, next, ask and line-for, each with -met and -tells; what next tells is in
+-- write-request, write-slip, read-slip, next and line-for, each with -met and -tells; what next tells is in
 -- SettledWalk.
 -- What -met and -tells say, and Tells, are in Functions. The arguments `a` are counted `a .0`, `a .1 .0`; a lent buffer is
 -- among them, and as it is left among the parameters at exit `e`.
@@ -13,7 +13,6 @@ use Rattle.octets.specs.Buffer.{putIn}
 use Rattle.fields.specs.Output.{outputOf, outputIn}
 use Rattle.request.specs.Request.{requestOf, requestRefusal}
 use Rattle.slip.specs.Slip.{slipOf, slipRefusal, readOf}
-use Rattle.question.specs.Asked.{asked}
 use Rattle.question.specs.Line.{lineOf}
 use Rattle.request.proofs.write_request.Reads as write-request
 use Rattle.request.proofs.write_request.Statement as write-request-contract
@@ -26,9 +25,6 @@ use Rattle.slip_read.proofs.read_slip.Statement as read-slip-contract
 use Rattle.slip_read.proofs.read_slip.Met as read-slip-theorem
 use Rattle.walk.proofs.next.Statement as next-contract
 use Rattle.walk.proofs.next.Met as next-theorem
-use Rattle.deskcase.proofs.ask.Reads as ask
-use Rattle.deskcase.proofs.ask.Statement as ask-contract
-use Rattle.deskcase.proofs.ask.Met as ask-theorem
 use Rattle.deskline.proofs.line_for.Reads as line-for
 use Rattle.deskline.proofs.line_for.Statement as line-for-contract
 use Rattle.deskline.proofs.line_for.Met as line-for-theorem
@@ -63,13 +59,6 @@ read-slip-tells k a z e p = p
 pub next-met : {M : Type 1} → next-contract.statement M
 next-met = next-theorem.met
 
--- ── deskcase::ask(question, response): the answer to both as octets ──
-pub ask-met : {M : Type 1} → ask-contract.statement M
-ask-met = ask-theorem.met
-
-pub ask-tells : Tells ask.Learnt (λ k a z e. z ≡ asked (now (a .0)) (now (a .1 .0)))
-ask-tells k a z e p = p
-
 -- ── deskline::line_for(input, out): the program's line, or 0 and the buffer as it was ──
 pub line-for-met : {M : Type 1} → line-for-contract.statement M
 line-for-met = line-for-theorem.met
@@ -77,4 +66,4 @@ line-for-met = line-for-theorem.met
 pub line-for-tells : Tells line-for.Learnt (λ k a z e.
     (z ≡ cond (ltb (length (now (a .1 .0))) (length (lineOf (now (a .0))))) 0 (length (lineOf (now (a .0)))))
     × (now (e .1 .0) ≡ putIn (now (a .1 .0)) 0 (lineOf (now (a .0)))))
-line-for-tells k a z e p = (p .0, p .1)
+line-for-tells k a z e p = (p .0, p .1 .0)

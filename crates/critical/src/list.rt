@@ -36,7 +36,7 @@ fn first_strange(s: &[u8], a: &[u8], b: &[u8]) -> Strange
 }
 
 // The same of a list.
-pub fn strange_in_list(s: &[u8], a: &[u8], b: &[u8]) -> Strange
+pub(crate) fn strange_in_list(s: &[u8], a: &[u8], b: &[u8]) -> Strange
     ensures { λ r. ⌜ r ≡ strangeRead (now (a .entry) ∷ now (b .entry) ∷ []) (now (s .entry)) (extensionList .dec (now (s .entry))) ⌝ }
 {
     let fit = extensions::read_list(s);

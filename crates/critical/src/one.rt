@@ -19,7 +19,7 @@ fn is_unknown(oid: &[u8], a: &[u8], b: &[u8]) -> bool
 }
 
 // Whether an extension is critical and not understood, by its OID and the octets after it.
-pub fn is_strange(oid: &[u8], rest: &[u8], a: &[u8], b: &[u8]) -> bool
+pub(crate) fn is_strange(oid: &[u8], rest: &[u8], a: &[u8], b: &[u8]) -> bool
     ensures { λ r. ⌜ r ≡ strangeHere (now (a .entry) ∷ now (b .entry) ∷ []) (now (oid .entry)) (now (rest .entry)) ⌝ }
 {
     if sequence::starts_with(rest, 0x01) {

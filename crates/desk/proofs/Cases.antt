@@ -1,46 +1,81 @@
--- What reading knows of how many octets it has.
--- put-inside, kept-inside; more-inside, end-inside; end-counted.
+-- What the program knows at each turn and return of its reading, and of the line that it writes.
+-- came-more; went-on, ended; end-counted, says-end, says-more, says-failed; line-inside, line-counted.
 -- Assumes nothing.
-use Prim.Native.Nat.{ℕ, _+_, _≤_}
+use Prim.Native.Nat.{ℕ, _≤_, _<_}
 use native.Mathlib.Omega.{arith}
-use mathlib.Core.Path.{_≡_, refl, sym, subst, _∙_}
-use mathlib.Core.List.{List}
-use mathlib.Core.Bool.{Bool, true, false, cond}
+use mathlib.Core.Path.{_≡_, sym, ap, subst, _∙_}
+use mathlib.Core.Bool.{cond}
+use mathlib.Core.List.{List, [], _++_}
+use lib.Dec.{ltb}
 use lib.ListN.{length, take}
 use lib.Seq.{length-take-le}
-use Rattle.octets.specs.Buffer.{roomFor, putIn, putAnswer}
-use Rattle.octets.specs.BufferLaws.{room-true, put-in-length}
-use Rattle.octets.specs.declared.Written.{Written}
-use Rattle.octets.specs.declared.Written.the-variants.{Next, Short}
+use Rattle.octets.specs.Buffer.{putIn}
+use Rattle.question.specs.Line.{lineOf}
+use Rattle.deskline.specs.LineLaws as line
+use Rattle.intake.specs.Kept.{keptWith, keptIn, Holds}
+use Rattle.intake.specs.Room.{roomLeast}
+use Rattle.intake.specs.KeptLaws.{holds-inside, holds-next}
+use Rattle.intake.specs.SameLineLaws.{kept-same-line}
 use Rattle.desk.specs.declared.Input.{Input}
 use Rattle.desk.specs.declared.Input.the-variants.{More, End, Failed}
-use Rattle.desk.specs.Input.{Inside}
+use Rattle.desk.specs.Input.{Onward, ReadAs, Read, Says}
 
--- the place after octets that were put is in the space
-put-room : (size at n next : ℕ) (r : Written) → r ≡ putAnswer size at n → r ≡ Next next → next ≤ size
-unfolding putAnswer
-put-room size at n next r e i = go (roomFor size at n) refl (sym i ∙ e)
-  where
-    go : (b : Bool) → roomFor size at n ≡ b → Next next ≡ cond b (Next (at + n)) Short → next ≤ size
-    go true q p = let z : next ≡ at + n = cc in omega (arith, room-true size at n q)
-    go false q p = let z : _≡_ {A = ℕ} 0 1 = cc in absurd (omega arith)
+-- ---- reading
 
-module _ (s out x : List ℕ) (at : ℕ) (r : Written) (p : out ≡ putIn s at x) where
-  pub put-inside : (next : ℕ) → r ≡ putAnswer (length s) at (length x) → r ≡ Next next → next ≤ length out
-  put-inside next e i = rw (p, put-in-length s at x) (put-room (length s) at (length x) next r e i)
+-- a read that brought octets: the space holds them after what it held
+module _ (before : List ℕ) (done : ℕ) (chunk : List ℕ) (n : ℕ) {after : List ℕ} {next : ℕ} where
+  pub came-more : (n ≡ 0 → ⊥) → n ≡ length (take n chunk) → next ≡ length (keptWith before done (take n chunk))
+      → after ≡ keptIn before done (take n chunk) → Onward before done after (More next)
+  came-more some e r o l h = (take n chunk, omega arith, holds-next before done l h (take n chunk) after next r o)
 
-  -- and so is the place that was reached before
-  pub kept-inside : at ≤ length s → at ≤ length out
-  kept-inside h = rw (p, put-in-length s at x) h
+module _ (before : List ℕ) (done : ℕ) (after : List ℕ) (n : ℕ) (input : Input) (o : Onward before done after input) where
+  -- a turn that read more: the space holds an input again
+  pub went-on : input ≡ More n → (l : List ℕ) × Holds before done l → (l : List ℕ) × Holds after n l
+  went-on e (l, h) =
+      let (came, some, holds) = subst (λ (i : Input). Onward before done after i) e o l h in
+      (l ++ came, holds)
 
-module _ (input : Input) (size n : ℕ) (h : Inside input size) where
-  -- what is known of an input, by its case
-  pub more-inside : input ≡ More n → n ≤ size
-  more-inside e = subst (λ (i : Input). Inside i size) e h
+  -- the end: the space holds the input
+  pub ended : input ≡ End n → (l : List ℕ) × Holds before done l → Read after (End n)
+  ended e (l, h) = (l, subst (λ (i : Input). Onward before done after i) e o l h)
 
-  pub end-inside : input ≡ End n → n ≤ size
-  end-inside e = subst (λ (i : Input). Inside i size) e h
+-- ---- the line
 
--- the octets that were read are there
-pub end-counted : (s : List ℕ) (input : Input) (n : ℕ) → Inside input (length s) → input ≡ End n → n ≡ length (take n s)
-end-counted s input n h e = sym (length-take-le n s (end-inside input (length s) n h e))
+module _ (space : List ℕ) (input : Input) (n : ℕ) (r : Read space input) (e : input ≡ End n) where
+  -- the octets that are kept are in the space
+  pub end-counted : n ≡ length (take n space)
+  end-counted =
+      let (l, h) = r in
+      let k : Holds space n l = subst (λ (i : Input). ReadAs space i l) e h in
+      sym (length-take-le n space (holds-inside space n l k))
+
+-- the line of what is written: of the octets l
+abbrev Line : List ℕ → List ℕ → ℕ → List ℕ → Type 0
+Line l before n after = (n ≡ cond (ltb (length before) (length (lineOf l))) 0 (length (lineOf l))) × (after ≡ putIn before 0 (lineOf l))
+
+module _ (space : List ℕ) (input : Input) (before : List ℕ) (k : ℕ) (after : List ℕ) where
+  -- at the end of the input: its line, though only its beginning may be kept
+  pub says-end : roomLeast ≤ length space → (n : ℕ) → input ≡ End n → Line (take n space) before k after → Says space input before k after
+  unfolding Says
+  says-end room n e line l h =
+      let holds : Holds space n l = subst (λ (i : Input). ReadAs space i l) e h in
+      let same : lineOf (take n space) ≡ lineOf l = ap lineOf (holds .octets) ∙ kept-same-line (length space) l room in
+      subst (λ (s : List ℕ). (k ≡ cond (ltb (length before) (length s)) 0 (length s)) × (after ≡ putIn before 0 s)) same line
+
+  -- where reading failed, and where it did not come to the end: the line of an empty input
+  pub says-more : (n : ℕ) → input ≡ More n → Line [] before k after → Says space input before k after
+  unfolding Says
+  says-more n e line l h = let i : l ≡ [] = subst (λ (i : Input). ReadAs space i l) e h in rw i line
+
+  pub says-failed : input ≡ Failed → Line [] before k after → Says space input before k after
+  unfolding Says
+  says-failed e line l h = let i : l ≡ [] = subst (λ (i : Input). ReadAs space i l) e h in rw i line
+
+-- the line is in its buffer, all of it
+module _ (space : List ℕ) (input : Input) (before : List ℕ) (k : ℕ) (after : List ℕ) (r : Read space input) (s : Says space input before k after) where
+  pub line-inside : k ≤ length after
+  unfolding Says
+  line-inside = let p = s (r .0) (r .1) in line.line-inside before (lineOf (r .0)) after k (p .0) (p .1)
+
+  pub line-counted : k ≡ length (take k after)
+  line-counted = sym (length-take-le k after line-inside)

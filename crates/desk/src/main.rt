@@ -1,48 +1,48 @@
 // The desk: reads a question and a response from standard input, and writes what the response says for
 // the question, as a slip in hex and a line feed.
 //
-// Reading goes on to the end of the input, whatever its length. A read that fails is not the end: it is
-// told on standard error, and the line is that of an input without a question, refusal 1.
+// Reading goes on to the end of the input, whatever its length. What is kept of it is in crate intake,
+// with the proof that the line is that of the whole input. A read that fails is not the end: it is told
+// on standard error, and the line is that of an input without a question, refusal 1.
+//
+// No contract says which octets the operating system hands over, or what becomes of those that are
+// written: that a read puts them at the start of the chunk, in order, and answers 0 only at the end of
+// the input, is assumed.
 use libc::STDIN_FILENO;
 use libc::STDOUT_FILENO;
-use octets::Written;
 ghost use Prim.Native.Nat.{_≤_};
 ghost use lib.ListN.{length};
-ghost use Rattle.desk.specs.Input.{Inside};
+ghost use Rattle.intake.specs.Room.{roomLeast};
+ghost use Rattle.desk.specs.Input.{Onward, Read, Says};
 
-// What came of reading: how many octets are in the space, and whether there may be more.
+// What came of reading: how many octets are kept in the space, and whether there may be more.
 enum Input {
     More(usize),
     End(usize),
     Failed,
 }
 
-// Reads once more, to after the octets that are there. What the space has no room for is read and
-// left out: the space then holds more octets than a question and the longest response that is read.
+// Reads once more, and keeps what came after the octets that are kept.
 fn read_more(space: &mut [u8], done: usize) -> Input
-    requires { ⌜ done ≤ length (now space) ⌝ }
-    ensures { λ r. ⌜ Inside r (length (now (space .exit))) ⌝ }
+    ensures { λ r. ⌜ Onward (now (space .entry)) done (now (space .exit)) r ⌝ }
 {
     let mut chunk = io::buffer();
     let got = libc::read(STDIN_FILENO, &mut chunk);
     if got < 0 {
         return Input::Failed;
     }
-    if got == 0 {
+    let n = io::count(got, &chunk);
+    if n == 0 {
         return Input::End(done);
     }
-    let n = io::count(got, &chunk);
-    let put = octets::put(space, done, &chunk[..n]);
-    match put {
-        Written::Next(next) => Input::More(next),
-        Written::Short => Input::More(done),
-    }
+    let next = intake::keep(space, done, &chunk[..n]);
+    Input::More(next)
 }
 
 // Reads to the end. A proved loop has to end, so it counts its turns down from a number that no run
 // uses up.
 fn read_all(space: &mut [u8]) -> Input
-    ensures { λ r. ⌜ Inside r (length (now (space .exit))) ⌝ }
+    ensures { λ r. ⌜ Read (now (space .exit)) r ⌝ }
 {
     let mut done = 0;
     let mut turns = u64::MAX;
@@ -60,31 +60,42 @@ fn read_all(space: &mut [u8]) -> Input
     Input::Failed
 }
 
-// Writes the line for an input.
-fn say_line(input: &[u8]) {
-    let mut line = [0u8; 175];
-    let n = deskline::line_for(input, &mut line);
-    io::write_all(STDOUT_FILENO, &line[..n]);
-}
-
-// The octets that were read, or none where reading failed.
-fn say_input(space: &[u8], input: Input)
-    requires { ⌜ Inside input (length (now space)) ⌝ }
+// Writes the line of the input that was read, or of an empty one where reading failed: how many octets.
+// In a space with room enough the line is that of the whole input, also where not all of it is kept.
+fn input_line(space: &[u8], input: Input, line: &mut [u8]) -> usize
+    requires { ⌜ roomLeast ≤ length (now space) ⌝ }
+    requires { ⌜ Read (now space) input ⌝ }
+    ensures { λ r. ⌜ Says (now (space .entry)) input (now (line .entry)) r (now (line .exit)) ⌝ }
 {
     match input {
-        Input::More(_) => say_line(&space[..0]),
-        Input::End(n) => say_line(&space[..n]),
-        Input::Failed => {
-            os::fail(b"desk: standard input");
-            say_line(&space[..0]);
-        }
+        Input::More(_) => deskline::line_for(&space[..0], line),
+        Input::End(n) => deskline::line_for(&space[..n], line),
+        Input::Failed => deskline::line_for(&space[..0], line),
     }
 }
 
-// 353 octets of a question, one octet more than the longest response, and room for what one read may
-// bring before that is seen.
+// Tells where reading failed.
+fn tell_failure(input: Input) {
+    match input {
+        Input::More(_) => (),
+        Input::End(_) => (),
+        Input::Failed => os::fail(b"desk: standard input"),
+    }
+}
+
+// Writes the line to standard output.
+fn say_input(space: &[u8], input: Input)
+    requires { ⌜ roomLeast ≤ length (now space) ⌝ }
+    requires { ⌜ Read (now space) input ⌝ }
+{
+    tell_failure(input);
+    let mut line = [0u8; 175];
+    let n = input_line(space, input, &mut line);
+    io::write_all(STDOUT_FILENO, &line[..n]);
+}
+
 fn main() {
-    let mut space = [0u8; 20834];
+    let mut space = [0u8; intake::ROOM];
     let input = read_all(&mut space);
     say_input(&space, input);
 }

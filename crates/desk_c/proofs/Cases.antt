@@ -1,17 +1,24 @@
 -- What the C functions know at each return, and the contract there.
--- part-long, part-unfit, part-failed, part-other; signed-basic, signature-basic; shown-number, shown-start, shown-len; entry-number,
--- entry-start, entry-len; span-at, span-end, span-refused; number-at, number-end,
--- number-refused; slip-good, slip-revoked, slip-unknown, slip-broken, slip-kept; size-octets, size-refused; no-card,
--- card-answer, card-kept, card-buffer.
+-- parts-basic, parts-long, parts-unfit, parts-failed, parts-other; asked-number, asked-status, refused-number; told-number,
+-- list-lent, held-start, held-len; told-part; behind-inside, behind-found, behind-none; held-before, held-none, held-some;
+-- entry-number, entry-start, entry-len; span-at, span-end, span-refused; number-at, number-end, number-refused; slip-good,
+-- slip-revoked, slip-unknown, slip-broken, slip-kept; size-octets, size-refused; no-card, card-answer, card-kept, card-buffer;
+-- check-read.
 -- Assumes nothing.
-use Prim.Native.Nat.{ℕ}
+use Prim.Native.Nat.{ℕ, _+_, _-_, _≤_}
+use native.Mathlib.Omega.{arith}
 use mathlib.Core.Path.{_≡_, refl, sym, ap, _∙_}
 use mathlib.Core.List.{List}
-use lib.ListN.{length}
+use lib.ListN.{length, take, drop}
 use borrow.Author.Tests.{eq-eqb, ne-eqb}
+use Rattle.element.specs.Header.{headerOf}
+use Rattle.element.specs.HeaderLaws.{header-inside}
+use Rattle.element.specs.declared.Header.{Header}
+use Rattle.element.specs.declared.Header.the-variants as header
+use Rattle.pieces.specs.Lent.{Known, known-octets, rest-is, part-is, part-length}
 use Rattle.response.specs.Parts.{judgedOf}
 use Rattle.response.specs.Refusals.{refusalOf}
-use Rattle.show.specs.Shown.{entryOf}
+use Rattle.show.specs.Shown.{octetsIn, entryOf}
 use Rattle.response.specs.declared.Refusal.{Refusal}
 use Rattle.response.specs.declared.Span.{Span}
 use Rattle.response.specs.declared.Parts.{Parts}
@@ -29,51 +36,106 @@ use Rattle.fields.specs.Output.{outputOf, outputIn}
 use Rattle.fields.specs.declared.Output.{Output}
 use Rattle.fields.specs.declared.Output.the-variants as output
 use Rattle.request.specs.Request.{requestOf, requestRefusal}
-use Rattle.slip.specs.Slip.{readOf}
-use Rattle.desk_c.specs.Places.{empty, spanOf, signedIn, signatureIn, entryNumber, entrySpan}
+use Rattle.slip.specs.Slip.{slipOf, readOf}
+use Rattle.slip.specs.SlipLaws.{read-written}
+use Rattle.question.specs.Asked.{asked}
+use Rattle.question.specs.FitsLaws.{fits-slip}
+use Rattle.question.specs.SizeLaws.{asked-sized}
+use Rattle.desk_c.specs.Places.{empty, noParts, partsOf, behindOf, lastBefore, heldIn, certificatesIn, entryNumber, entrySpan}
+use Rattle.desk_c.specs.PlacesLaws.{behind-length, list-inside}
 use Rattle.desk_c.specs.Papers.{slipNumber, sizeOr0, requestSize, requestIn}
 
--- ---- a part of a response
+-- ---- the parts of a response
 
-module _ (part : Parts → Span) (j : Judged) where
-  part-basic : (p : Parts) → j ≡ Basic p → part p ≡ spanOf part j
-  unfolding spanOf
-  part-basic p e = rw e
+module _ (j : Judged) where
+  pub parts-basic : (p : Parts) → j ≡ Basic p → p ≡ partsOf j
+  unfolding partsOf
+  parts-basic p e = rw e
 
-  pub part-long : j ≡ TooLong → empty ≡ spanOf part j
-  unfolding spanOf
-  part-long e = rw e
+  module _ (p : Parts) (q : p ≡ noParts) where
+    pub parts-long : j ≡ TooLong → p ≡ partsOf j
+    unfolding partsOf
+    parts-long e = rw (e, q)
 
-  pub part-unfit : (p : ℕ) → j ≡ Unfit p → empty ≡ spanOf part j
-  unfolding spanOf
-  part-unfit p e = rw e
+    pub parts-unfit : (n : ℕ) → j ≡ Unfit n → p ≡ partsOf j
+    unfolding partsOf
+    parts-unfit n e = rw (e, q)
 
-  pub part-failed : (n : ℕ) → j ≡ Failed n → empty ≡ spanOf part j
-  unfolding spanOf
-  part-failed n e = rw e
+    pub parts-failed : (n : ℕ) → j ≡ Failed n → p ≡ partsOf j
+    unfolding partsOf
+    parts-failed n e = rw (e, q)
 
-  pub part-other : j ≡ OtherType → empty ≡ spanOf part j
-  unfolding spanOf
-  part-other e = rw e
+    pub parts-other : j ≡ OtherType → p ≡ partsOf j
+    unfolding partsOf
+    parts-other e = rw (e, q)
 
--- the signed part and the signature of a basic response
-pub signed-basic : (j : Judged) (p : Parts) → j ≡ Basic p → p .signed ≡ signedIn j
-signed-basic j p e = part-basic (λ (x : Parts). x .signed) j p e
+-- the refusal of a response, and of what it is
+module _ (s : List ℕ) (r : Refusal) (q : r ≡ refusalOf (judgedOf s)) where
+  pub asked-number : r .number ≡ refusalOf (judgedOf s) .number
+  asked-number = ap (λ (x : Refusal). x .number) q
 
-pub signature-basic : (j : Judged) (p : Parts) → j ≡ Basic p → p .signature ≡ signatureIn j
-signature-basic j p e = part-basic (λ (x : Parts). x .signature) j p e
+  pub asked-status : r .status ≡ refusalOf (judgedOf s) .status
+  asked-status = ap (λ (x : Refusal). x .status) q
 
--- what a judged response shows
+pub refused-number : (j : Judged) (r : Refusal) → r ≡ refusalOf j → r .number ≡ refusalOf j .number
+refused-number j r q = ap (λ (x : Refusal). x .number) q
+
+-- what a judged response shows: the refusal's number, and its parts
 module _ (s : List ℕ) (j : Judged) (q : j ≡ judgedOf s) where
-  pub shown-number : (r : Refusal) → r ≡ refusalOf j → r .number ≡ refusalOf (judgedOf s) .number
-  shown-number r e = ap (λ (x : Refusal). x .number) (e ∙ ap refusalOf q)
+  pub told-number : (n : ℕ) → n ≡ refusalOf j .number → n ≡ refusalOf (judgedOf s) .number
+  told-number n e = e ∙ ap (λ (x : Judged). refusalOf x .number) q
 
-  module _ (part : Parts → Span) (at : Span) (e : at ≡ spanOf part j) where
-    pub shown-start : at .start ≡ spanOf part (judgedOf s) .start
-    shown-start = ap (λ (x : Span). x .start) (e ∙ ap (spanOf part) q)
+  module _ (p : Parts) (e : p ≡ partsOf j) where
+    parts-are : p ≡ partsOf (judgedOf s)
+    parts-are = e ∙ ap partsOf q
 
-    pub shown-len : at .len ≡ spanOf part (judgedOf s) .len
-    shown-len = ap (λ (x : Span). x .len) (e ∙ ap (spanOf part) q)
+    -- its certificates
+    pub list-lent : Known s → p .certificates .start + p .certificates .len ≤ length s
+    list-lent k = rw parts-are (list-inside s (known-octets s k))
+
+    module _ (at : Span) (h : at ≡ heldIn s (p .certificates)) where
+      pub held-start : (n : ℕ) → n ≡ at .start → n ≡ certificatesIn s (judgedOf s) .start
+      held-start n i = i ∙ ap (λ (x : Span). x .start) h ∙ ap (λ (x : Parts). heldIn s (x .certificates) .start) parts-are
+
+      pub held-len : (n : ℕ) → n ≡ at .len → n ≡ certificatesIn s (judgedOf s) .len
+      held-len n i = i ∙ ap (λ (x : Span). x .len) h ∙ ap (λ (x : Parts). heldIn s (x .certificates) .len) parts-are
+
+-- a number of its parts
+pub told-part : (f : Parts → ℕ) (s : List ℕ) (j : Judged) (q : j ≡ judgedOf s) (p : Parts) (e : p ≡ partsOf j) (n : ℕ) → n ≡ f p → n ≡ f (partsOf (judgedOf s))
+told-part f s j q p e n i = i ∙ ap f (parts-are s j q p e)
+
+-- ---- what stands behind a header
+
+module _ (s : List ℕ) (x : Header) (q : x ≡ headerOf s) where
+  pub behind-inside : (t h n : ℕ) → x ≡ header.Found t h n → h ≤ length s
+  behind-inside t h n f = omega (arith, header-inside s t h n (sym q ∙ f) .1)
+
+  pub behind-found : (t h n : ℕ) → x ≡ header.Found t h n → take (length s - h) (drop h s) ≡ behindOf s
+  unfolding behindOf
+  behind-found t h n f = rw (← q, f) (rest-is h s)
+
+  pub behind-none : (p : ℕ) → x ≡ header.Refused p → s ≡ behindOf s
+  unfolding behindOf
+  behind-none p f = rw (← q, f)
+
+module _ (s : List ℕ) (at : Span) (le : at .start + at .len ≤ length s) where
+  abbrev lent : List ℕ
+  lent = take (at .start + at .len - at .start) (drop (at .start) s)
+
+  module _ (l h : List ℕ) (p : l ≡ behindOf lent) (q : h ≡ behindOf l) where
+    held-is : h ≡ behindOf (behindOf (octetsIn s at))
+    held-is = q ∙ ap behindOf p ∙ ap (λ (x : List ℕ). behindOf (behindOf x)) (part-is (at .start) (at .len) s)
+
+    pub held-before : length h ≤ at .start + at .len
+    held-before = omega (arith, ap length held-is, behind-length (behindOf (octetsIn s at)), behind-length (octetsIn s at), part-length (at .start) (at .len) s le)
+
+    pub held-none : length h ≡ 0 → empty ≡ heldIn s at
+    unfolding heldIn lastBefore
+    held-none e = rw (← held-is, eq-eqb (length h) 0 e)
+
+    pub held-some : (length h ≡ 0 → ⊥) → record { start = at .start + at .len - length h; len = length h } ≡ heldIn s at
+    unfolding heldIn lastBefore
+    held-some e = rw (← held-is, ne-eqb (length h) 0 e)
 
 -- ---- an entry
 
@@ -166,3 +228,8 @@ module _ (card out : List ℕ) where
     pub card-buffer : (last : List ℕ) → last ≡ outputIn (requestRefusal c) out (requestOf c) → last ≡ requestIn card out
     unfolding requestIn
     card-buffer last p = p ∙ ap (λ (x : Card). outputIn (requestRefusal x) out (requestOf x)) e ∙ sym (rw (eq-eqb (length card) 61 h))
+
+-- ── the check ──
+-- the slip of the answer reads as the answer: by its type the response is octets
+pub check-read : (q r : List ℕ) → Known r → readOf 20 (slipOf (asked q r)) ≡ asked q r
+check-read q r known = read-written (asked q r) (fits-slip q r (known-octets r known)) 20 (λ c. asked-sized q r)

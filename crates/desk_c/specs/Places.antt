@@ -1,12 +1,22 @@
 -- What the C functions that show a part answer: a number, and where the part is.
--- empty, spanOf; entryNumber, entrySpan.
--- A refusal's part is empty: it starts at 0 and has no octets. So is the part past the last entry.
+-- empty, noParts, partsOf, signedIn, algorithmIn, signatureIn; headerSize, behindOf, lastBefore, heldIn, certificatesIn;
+-- entryNumber, entrySpan.
+-- A refusal's part is empty: it starts at 0 and has no octets. So are the certificates where there are none, and the part
+-- past the last entry. That the octets there are the forms of the reading's parts is in PlacesLaws.
 -- Assumes nothing.
-use Prim.Native.Nat.{ℕ}
+use Prim.Native.Nat.{ℕ, _+_, _-_}
+use mathlib.Core.Bool.{cond}
+use mathlib.Core.List.{List}
+use lib.Dec.{eqb}
+use lib.ListN.{length, drop}
+use Rattle.element.specs.Header.{headerOf}
+use Rattle.element.specs.declared.Header.{Header}
+use Rattle.element.specs.declared.Header.the-variants as header
 use Rattle.response.specs.declared.Span.{Span}
 use Rattle.response.specs.declared.Parts.{Parts}
 use Rattle.response.specs.declared.Judged.{Judged}
 use Rattle.response.specs.declared.Judged.the-variants.{Basic, TooLong, Unfit, Failed, OtherType}
+use Rattle.show.specs.Shown.{octetsIn}
 use Rattle.show.specs.declared.Entry.{Entry}
 use Rattle.show.specs.declared.Entry.the-variants.{At, End, Refused}
 
@@ -14,20 +24,59 @@ use Rattle.show.specs.declared.Entry.the-variants.{At, End, Refused}
 abbrev pub empty : Span
 empty = record { start = 0; len = 0 }
 
--- where a part of a response is
-unfoldable pub spanOf : (Parts → Span) → Judged → Span
-spanOf part (Basic p) = part p
-spanOf part TooLong = empty
-spanOf part (Unfit p) = empty
-spanOf part (Failed n) = empty
-spanOf part OtherType = empty
+-- the parts of what has none
+abbrev pub noParts : Parts
+noParts = record {
+  signed = empty;
+  responder = empty;
+  entries = empty;
+  count = 0;
+  extensions = empty;
+  algorithm = empty;
+  signature = empty;
+  certificates = empty;
+}
 
--- where the signed part is, and the signature
+-- the parts of a response, all empty where it is refused
+unfoldable pub partsOf : Judged → Parts
+partsOf (Basic p) = p
+partsOf TooLong = noParts
+partsOf (Unfit p) = noParts
+partsOf (Failed n) = noParts
+partsOf OtherType = noParts
+
+-- where the signed part is, header included
 abbrev pub signedIn : Judged → Span
-signedIn = spanOf (λ p. p .signed)
+signedIn j = partsOf j .signed
 
+-- where the signature's algorithm identifier is, header included
+abbrev pub algorithmIn : Judged → Span
+algorithmIn j = partsOf j .algorithm
+
+-- where the signature is, without its 00
 abbrev pub signatureIn : Judged → Span
-signatureIn = spanOf (λ p. p .signature)
+signatureIn j = partsOf j .signature
+
+-- how many octets a header takes, none where there is no header
+abbrev pub headerSize : Header → ℕ
+headerSize (header.Found t h n) = h
+headerSize (header.Refused p) = 0
+
+-- what stands behind the header at the head of a list
+unfoldable pub behindOf : List ℕ → List ℕ
+behindOf s = drop (headerSize (headerOf s)) s
+
+-- so many octets before a place; an empty part where there are none
+unfoldable pub lastBefore : ℕ → ℕ → Span
+lastBefore end n = cond (eqb n 0) empty record { start = end - n; len = n }
+
+-- of an element at a place that holds one other, what that other holds: it stands behind both headers
+unfoldable pub heldIn : List ℕ → Span → Span
+heldIn s at = lastBefore (at .start + at .len) (length (behindOf (behindOf (octetsIn s at))))
+
+-- where the certificates are, one after the other, without the A0 and the 30 around them
+abbrev pub certificatesIn : List ℕ → Judged → Span
+certificatesIn s j = heldIn s (partsOf j .certificates)
 
 -- the refusal of an entry, 0 where there is none
 unfoldable pub entryNumber : Entry → ℕ

@@ -3,11 +3,14 @@
 //
 // No function here has a requirement beyond what its types say, keeps state or allocates.
 mod papers; // the check, requests, slips
-mod shown; // parts of a response
+mod shown; // a response's refusal and its parts
 
 pub use papers::desk_check;
 pub use papers::desk_request;
 pub use papers::desk_slip;
+pub use shown::desk_algorithm;
+pub use shown::desk_certificates;
 pub use shown::desk_entry;
+pub use shown::desk_refusal;
 pub use shown::desk_signature;
 pub use shown::desk_signed;

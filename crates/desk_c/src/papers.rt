@@ -11,11 +11,12 @@ ghost use Rattle.question.specs.Asked.{asked};
 ghost use Rattle.desk_c.specs.Papers.{slipNumber, sizeOr0, requestSize, requestIn};
 
 // Writes the slip of the answer to a question of 353 octets: its length, or 0 where the buffer is too
-// short.
+// short. Reading that slip gives back the answer.
 #[no_mangle]
 pub extern "C" fn desk_check(question: &[u8], response: &[u8], slip: &mut [u8]) -> usize
     ensures { λ r. ⌜ r ≡ cond (ltb (length (now (slip .entry))) (length (slipOf (asked (now (question .entry)) (now (response .entry)))))) 0 (length (slipOf (asked (now (question .entry)) (now (response .entry))))) ⌝ }
     ensures { λ _. ⌜ now (slip .exit) ≡ putIn (now (slip .entry)) 0 (slipOf (asked (now (question .entry)) (now (response .entry)))) ⌝ }
+    ensures { λ _. ⌜ readOf 20 (slipOf (asked (now (question .entry)) (now (response .entry)))) ≡ asked (now (question .entry)) (now (response .entry)) ⌝ }
 {
     deskcase::slip_for(question, response, slip)
 }

@@ -1,37 +1,68 @@
-// Parts of a response: where they are in the caller's own octets.
+// A response's refusal, and its parts: where they are in the caller's own octets.
+use element::Header;
 use response::Judged;
+use response::Parts;
 use response::Span;
 use show::Entry;
+ghost use Prim.Native.Nat.{_+_, _≤_};
 ghost use mathlib.Core.Path.{_≡_};
+ghost use lib.ListN.{length};
 ghost use Rattle.response.specs.Parts.{judgedOf};
 ghost use Rattle.response.specs.Refusals.{refusalOf};
 ghost use Rattle.show.specs.Shown.{entryOf};
-ghost use Rattle.desk_c.specs.Places.{signedIn, signatureIn, entryNumber, entrySpan};
+ghost use Rattle.desk_c.specs.Places.{noParts, partsOf, signedIn, algorithmIn, signatureIn, behindOf, heldIn, certificatesIn, entryNumber, entrySpan};
 
-// Where the signed part is, by what the response is.
-fn signed_in(judged: Judged) -> Span
-    ensures { λ r. ⌜ r ≡ signedIn judged ⌝ }
+// The refusal of a response before any question is asked: 0 or 2 to 5, and the status that goes with 4.
+#[no_mangle]
+pub extern "C" fn desk_refusal(response: &[u8], status: &mut usize) -> usize
+    ensures { λ r. ⌜ r ≡ refusalOf (judgedOf (now (response .entry))) .number ⌝ }
+    ensures { λ _. ⌜ now (status .exit) ≡ refusalOf (judgedOf (now (response .entry))) .status ⌝ }
 {
-    match judged {
-        Judged::Basic(parts) => parts.signed,
-        Judged::TooLong => Span { start: 0, len: 0 },
-        Judged::Unfit(_) => Span { start: 0, len: 0 },
-        Judged::Failed(_) => Span { start: 0, len: 0 },
-        Judged::OtherType => Span { start: 0, len: 0 },
+    let refusal = response::refuse(response);
+    *status = refusal.status as usize;
+    refusal.number as usize
+}
+
+// The parts of what has none: each is empty.
+fn no_parts() -> Parts
+    ensures { λ r. ⌜ r ≡ noParts ⌝ }
+{
+    let empty = Span { start: 0, len: 0 };
+    Parts {
+        signed: empty,
+        responder: empty,
+        entries: empty,
+        count: 0,
+        extensions: empty,
+        algorithm: empty,
+        signature: empty,
+        certificates: empty,
     }
 }
 
-// Where the signature is, likewise.
-fn signature_in(judged: Judged) -> Span
-    ensures { λ r. ⌜ r ≡ signatureIn judged ⌝ }
+// The parts of a response, by what it is; all empty where it is refused.
+fn parts_of(judged: Judged) -> Parts
+    ensures { λ r. ⌜ r ≡ partsOf judged ⌝ }
 {
     match judged {
-        Judged::Basic(parts) => parts.signature,
-        Judged::TooLong => Span { start: 0, len: 0 },
-        Judged::Unfit(_) => Span { start: 0, len: 0 },
-        Judged::Failed(_) => Span { start: 0, len: 0 },
-        Judged::OtherType => Span { start: 0, len: 0 },
+        Judged::Basic(parts) => parts,
+        Judged::TooLong => no_parts(),
+        Judged::Unfit(_) => no_parts(),
+        Judged::Failed(_) => no_parts(),
+        Judged::OtherType => no_parts(),
     }
+}
+
+// Tells where a part is, and the refusal of what the response is, 0 where there is none.
+fn tell(judged: Judged, span: Span, from: &mut usize, len: &mut usize) -> usize
+    ensures { λ r. ⌜ r ≡ refusalOf judged .number ⌝ }
+    ensures { λ _. ⌜ now (from .exit) ≡ span .start ⌝ }
+    ensures { λ _. ⌜ now (len .exit) ≡ span .len ⌝ }
+{
+    *from = span.start;
+    *len = span.len;
+    let said = response::refusal_of(judged);
+    said.number as usize
 }
 
 // The signed part, header included: 0 and where it is, or the refusal's number and an empty part.
@@ -42,11 +73,20 @@ pub extern "C" fn desk_signed(response: &[u8], from: &mut usize, len: &mut usize
     ensures { λ _. ⌜ now (len .exit) ≡ signedIn (judgedOf (now (response .entry))) .len ⌝ }
 {
     let judged = response::judge(response);
-    let span = signed_in(judged);
-    *from = span.start;
-    *len = span.len;
-    let refusal = response::refusal_of(judged);
-    refusal.number as usize
+    let parts = parts_of(judged);
+    tell(judged, parts.signed, from, len)
+}
+
+// The signature's algorithm identifier, header included, likewise.
+#[no_mangle]
+pub extern "C" fn desk_algorithm(response: &[u8], from: &mut usize, len: &mut usize) -> usize
+    ensures { λ r. ⌜ r ≡ refusalOf (judgedOf (now (response .entry))) .number ⌝ }
+    ensures { λ _. ⌜ now (from .exit) ≡ algorithmIn (judgedOf (now (response .entry))) .start ⌝ }
+    ensures { λ _. ⌜ now (len .exit) ≡ algorithmIn (judgedOf (now (response .entry))) .len ⌝ }
+{
+    let judged = response::judge(response);
+    let parts = parts_of(judged);
+    tell(judged, parts.algorithm, from, len)
 }
 
 // The signature without its 00, likewise.
@@ -57,11 +97,52 @@ pub extern "C" fn desk_signature(response: &[u8], from: &mut usize, len: &mut us
     ensures { λ _. ⌜ now (len .exit) ≡ signatureIn (judgedOf (now (response .entry))) .len ⌝ }
 {
     let judged = response::judge(response);
-    let span = signature_in(judged);
-    *from = span.start;
-    *len = span.len;
-    let refusal = response::refusal_of(judged);
-    refusal.number as usize
+    let parts = parts_of(judged);
+    tell(judged, parts.signature, from, len)
+}
+
+// What stands behind the header at the head of s; all of s where there is no header.
+fn behind<'a>(s: &'a [u8]) -> &'a [u8]
+    ensures { λ r. ⌜ now r ≡ behindOf (now (s .entry)) ⌝ }
+{
+    let header = element::read_header(s);
+    match header {
+        Header::Found { start, .. } => &s[start..],
+        Header::Refused(_) => s,
+    }
+}
+
+// Of an element that holds one other, and of that one what it holds: where it is.
+fn held_in(s: &[u8], at: Span) -> Span
+    requires { ⌜ at .start + at .len ≤ length (now s) ⌝ }
+    ensures { λ r. ⌜ r ≡ heldIn (now (s .entry)) at ⌝ }
+{
+    let start = at.start;
+    let end = start + at.len;
+    let list = behind(&s[start..end]);
+    let held = behind(list);
+    let len = held.len();
+    if len == 0 {
+        return Span { start: 0, len: 0 };
+    }
+    Span {
+        start: end - len,
+        len,
+    }
+}
+
+// The certificates one after the other, without what is around them: 0 and where they are, an empty part
+// where there are none; or the refusal's number and an empty part.
+#[no_mangle]
+pub extern "C" fn desk_certificates(response: &[u8], from: &mut usize, len: &mut usize) -> usize
+    ensures { λ r. ⌜ r ≡ refusalOf (judgedOf (now (response .entry))) .number ⌝ }
+    ensures { λ _. ⌜ now (from .exit) ≡ certificatesIn (now (response .entry)) (judgedOf (now (response .entry))) .start ⌝ }
+    ensures { λ _. ⌜ now (len .exit) ≡ certificatesIn (now (response .entry)) (judgedOf (now (response .entry))) .len ⌝ }
+{
+    let judged = response::judge(response);
+    let parts = parts_of(judged);
+    let span = held_in(response, parts.certificates);
+    tell(judged, span, from, len)
 }
 
 // Where an entry is.

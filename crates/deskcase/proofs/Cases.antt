@@ -1,32 +1,25 @@
 -- What the code knows at each return, and the contract there.
--- form-long, form-kind, form-name, form-fill; question-parts; numbers-now, numbers-tolerance, numbers-verdict, numbers-least,
--- numbers-most, numbers-marks; stands-form-broken, stands-inside, stands-there, stands-range-broken, stands-card; asked-long,
--- asked-sum, asked-end, asked-ruled, asked-out, asked-stands.
+-- form-long, form-kind, form-name, form-fill; question-parts; asked-long, asked-sum, asked-end, asked-checked, asked-out, asked-form.
 -- Assumes nothing.
 use Prim.Native.Nat.{ℕ, _+_, _-_, _≤_, _<_}
 use native.Mathlib.Omega.{arith}
 use mathlib.Core.Path.{_≡_, sym, ap, _∙_}
 use mathlib.Core.Bool.{Bool, true, false, not}
 use mathlib.Core.List.{List}
-use lib.Dec.{leb}
 use lib.ListN.{length, getD, take, drop, length-drop}
 use lib.Seq.{take-all, drop-drop}
 use borrow.Author.Tests.{eq-eqb, ne-eqb, le-leb, lt-leb, not-true, not-false}
-use mir.Syntax.{w8, w64}
+use mir.Syntax.{w64}
 use mir.Val.{Fits}
-use Rattle.octets.specs.OctetsLaws.{octets-from}
-use Rattle.answer.specs.Card.{allZero, fieldOk}
+use Rattle.answer.specs.Card.{allZero}
 use Rattle.answer.specs.Verdict.{refused}
 use Rattle.answer.specs.declared.Card.{Card}
 use Rattle.answer.specs.declared.Answer.{Answer}
 use Rattle.fields.specs.Field.{fieldAt, valueAt, cardIn}
 use Rattle.rules.specs.declared.Question.{Question}
-use Rattle.opened.specs.Opened.{openedOf}
-use Rattle.ruling.specs.CardRuled.{openedRuled}
+use Rattle.rules.specs.Ruling.{answerOf}
 use Rattle.question.specs.Asked.{questionIn, nameIn, fillIn, questionOk, asked}
-use Rattle.question.specs.AskedLaws.{octet-there, question-exactly}
-use Rattle.question.specs.Stands.{numbersOk, standsOk}
-use Rattle.question.specs.StandsLaws.{range-broken, range-card, stands-form, form-broken, stands-broken, stands-ruled}
+use Rattle.question.specs.AskedLaws.{octet-there, question-exactly, asked-broken, asked-kept}
 
 -- ---- the form
 
@@ -67,70 +60,15 @@ question-parts s l card a now b tolerance c signer d =
     let h : getD s 74 0 ≡ valueAt s 74 1 = sym (octet-there s 74 (omega arith)) in
     λ i. record { card = e i; now = b i; tolerance = c i; verdict = f i; role = g i; marks = h i; signer = d i }
 
--- ---- the ranges
-
-module _ (s : List ℕ) (a : ℕ) (p : a ≡ valueAt s 62 8) where
-  pub numbers-now : 253402300799 < a → false ≡ numbersOk 20 s
-  unfolding numbersOk
-  numbers-now h = rw (← p, lt-leb a 253402300799 h)
-
-  module _ (i : a ≤ 253402300799) (b : ℕ) (q : b ≡ valueAt s 70 2) where
-    pub numbers-tolerance : 3600 < b → false ≡ numbersOk 20 s
-    unfolding numbersOk
-    numbers-tolerance h = rw (← p, le-leb a 253402300799 i, ← q, lt-leb b 3600 h)
-
-    module _ (j : b ≤ 3600) (c : ℕ) (r : c ≡ valueAt s 72 1) where
-      pub numbers-verdict : 2 < c → false ≡ numbersOk 20 s
-      unfolding numbersOk
-      numbers-verdict h = rw (← p, le-leb a 253402300799 i, ← q, le-leb b 3600 j, ← r, lt-leb c 2 h)
-
-      module _ (k : c ≤ 2) (d : ℕ) (t : d ≡ valueAt s 73 1) where
-        pub numbers-least : d < 1 → false ≡ numbersOk 20 s
-        unfolding numbersOk
-        numbers-least h = rw (← p, le-leb a 253402300799 i, ← q, le-leb b 3600 j, ← r, le-leb c 2 k, ← t, lt-leb 1 d h)
-
-        module _ (l : 1 ≤ d) where
-          pub numbers-most : 3 < d → false ≡ numbersOk 20 s
-          unfolding numbersOk
-          numbers-most h = rw (← p, le-leb a 253402300799 i, ← q, le-leb b 3600 j, ← r, le-leb c 2 k, ← t, le-leb 1 d l, lt-leb d 3 h)
-
-          pub numbers-marks : d ≤ 3 → (e : ℕ) → e ≡ valueAt s 74 1 → leb e 7 ≡ numbersOk 20 s
-          unfolding numbersOk
-          numbers-marks h e u = rw (← p, le-leb a 253402300799 i, ← q, le-leb b 3600 j, ← r, le-leb c 2 k, ← t, le-leb 1 d l, le-leb d 3 h, ← u)
-
-module _ (s : List ℕ) (z : Bool) (e : z ≡ questionOk 20 s) where
-  pub stands-form-broken : not z ≡ true → false ≡ standsOk s
-  stands-form-broken h = sym (form-broken s (sym e ∙ not-true z h))
-
-  module _ (h : not z ≡ false) where
-    form : questionOk 20 s ≡ true
-    form = sym e ∙ not-false z h
-
-    pub stands-inside : 62 ≤ length s
-    stands-inside = omega (arith, question-exactly 20 s .0 form .0)
-
-    pub stands-there : 41 < length s
-    stands-there = omega (arith, question-exactly 20 s .0 form .0)
-
-    module _ (n : Bool) (f : n ≡ numbersOk 20 s) where
-      pub stands-range-broken : not n ≡ true → false ≡ standsOk s
-      stands-range-broken k = sym (range-broken s form (sym f ∙ not-true n k))
-
-      pub stands-card : not n ≡ false → (w : Bool) → w ≡ fieldOk (getD s 41 0) (take 20 (drop 42 s)) → w ≡ standsOk s
-      stands-card k w g = g ∙ sym (range-card s form (sym f ∙ not-false n k))
-
 -- ---- the answer
 
-module _ (s r : List ℕ) (e : standsOk s ≡ true) where
-  kept : questionOk 20 s ≡ true
-  kept = stands-form s e
-
+module _ (s r : List ℕ) (e : questionOk 20 s ≡ true) where
   pub asked-long : length s ≡ 353
-  asked-long = question-exactly 20 s .0 kept .0
+  asked-long = question-exactly 20 s .0 e .0
 
   module _ (size : ℕ) (v : size ≡ valueAt s 95 2) where
     most : size ≤ 256
-    most = omega (arith, question-exactly 20 s .0 kept .2)
+    most = omega (arith, question-exactly 20 s .0 e .2)
 
     pub asked-sum : Fits w64 (97 + size)
     asked-sum = record { fits = omega (arith, most) }
@@ -138,16 +76,15 @@ module _ (s r : List ℕ) (e : standsOk s ≡ true) where
     pub asked-end : 97 + size ≤ length s
     asked-end = omega (arith, most, asked-long)
 
-    pub asked-ruled : ((i : ℕ) → Fits w8 (getD s i 0)) → ((i : ℕ) → Fits w8 (getD r i 0)) → (q : Question) → q ≡ questionIn 20 s
-        → (a : Answer) → a ≡ openedRuled q r (openedOf q (take (97 + size - 97) (drop 97 s)) r) → a ≡ asked s r
+    pub asked-checked : (q : Question) → q ≡ questionIn 20 s → (a : Answer) → a ≡ answerOf q (take (97 + size - 97) (drop 97 s)) r → a ≡ asked s r
     unfolding nameIn
-    asked-ruled o p q x a y =
+    asked-checked q x a y =
         let i : 97 + size - 97 ≡ valueAt s 95 2 = omega arith in
-        y ∙ rw (x, i) (sym (stands-ruled s r (octets-from s (λ i lt. o i .fits)) (octets-from r (λ i lt. p i .fits)) e))
+        y ∙ rw (x, i) (sym (asked-kept s r e))
 
-module _ (s r : List ℕ) (z : Bool) (e : z ≡ standsOk s) where
+module _ (s r : List ℕ) (z : Bool) (e : z ≡ questionOk 20 s) where
   pub asked-out : not z ≡ true → (a : Answer) → a ≡ refused 1 0 → a ≡ asked s r
-  asked-out h a x = x ∙ sym (stands-broken s r (sym e ∙ not-true z h))
+  asked-out h a x = x ∙ sym (asked-broken s r (sym e ∙ not-true z h))
 
-  pub asked-stands : not z ≡ false → standsOk s ≡ true
-  asked-stands h = sym e ∙ not-false z h
+  pub asked-form : not z ≡ false → questionOk 20 s ≡ true
+  asked-form h = sym e ∙ not-false z h

@@ -1,5 +1,6 @@
 -- What the code knows at each return of the line's writer, and the contract there.
--- end-before, end-at, end-inside, end-counted, desk-count, desk-buffer; line-inside, line-counted, line-count, line-buffer.
+-- end-before, end-at, end-inside, end-counted, desk-count, desk-buffer; line-inside, line-counted, line-count, line-buffer;
+-- line-read.
 -- Assumes nothing.
 use Prim.Native.Nat.{ℕ, _+_, _-_, _≤_, _<_}
 use native.Mathlib.Nat.{zero-add}
@@ -13,11 +14,14 @@ use lib.Seq.{length-take-le, take-all, take-at}
 use borrow.Author.Tests.{le-ltb}
 use Rattle.octets.specs.Buffer.{putIn}
 use Rattle.octets.specs.BufferLaws.{put-in-room, put-in-length}
-use Rattle.slip.specs.Slip.{slipOf}
+use Rattle.pieces.specs.Lent.{Known, known-octets}
+use Rattle.slip.specs.Slip.{slipOf, readOf}
+use Rattle.slip.specs.SlipLaws.{read-written}
 use Rattle.hex.specs.Hex.{hexLine}
 use Rattle.question.specs.Asked.{asked, deskOf}
 use Rattle.question.specs.Line.{questionEnd, lineOf}
-use Rattle.question.specs.LineLaws.{line-is, end-short, end-long, end-least, cut-question, cut-response, desk-most}
+use Rattle.question.specs.LineLaws.{line-is, end-short, end-long, end-least, cut-question, cut-response, desk-fits, desk-most}
+use Rattle.question.specs.SizeLaws.{asked-sized}
 
 -- ---- the input, cut
 
@@ -75,3 +79,10 @@ module _ (s : List ℕ) (n : ℕ) (e : n ≡ cond (ltb 87 (length (slipOf (deskO
 
     pub line-buffer : (out p : List ℕ) → p ≡ putIn out 0 (hexLine (take n o)) → p ≡ putIn out 0 (lineOf s)
     line-buffer out p x = x ∙ rw (slip-is, line-is s)
+
+-- ---- the answer
+
+-- the slip of the answer reads as the answer: by its type the input is octets
+pub line-read : (s : List ℕ) → Known s → readOf 20 (slipOf (deskOf s)) ≡ deskOf s
+unfolding deskOf
+line-read s known = read-written (deskOf s) (desk-fits s (known-octets s known)) 20 (λ c. asked-sized (take 353 s) (drop 353 s))

@@ -4,7 +4,7 @@ ghost use mathlib.Core.Bool.{cond};
 ghost use lib.Dec.{ltb};
 ghost use lib.ListN.{length};
 ghost use Rattle.octets.specs.Buffer.{putIn};
-ghost use Rattle.slip.specs.Slip.{slipOf};
+ghost use Rattle.slip.specs.Slip.{slipOf, readOf};
 ghost use Rattle.question.specs.Asked.{deskOf};
 ghost use Rattle.question.specs.Line.{questionEnd, lineOf};
 
@@ -28,10 +28,11 @@ fn desk_slip(input: &[u8], out: &mut [u8]) -> usize
 }
 
 // Writes the line of an input at the start of a buffer: how many octets, or 0 where there is no room
-// for them.
+// for them. Reading the slip that the line is the hex of gives back the answer.
 pub fn line_for(input: &[u8], out: &mut [u8]) -> usize
     ensures { λ r. ⌜ r ≡ cond (ltb (length (now (out .entry))) (length (lineOf (now (input .entry))))) 0 (length (lineOf (now (input .entry)))) ⌝ }
     ensures { λ _. ⌜ now (out .exit) ≡ putIn (now (out .entry)) 0 (lineOf (now (input .entry))) ⌝ }
+    ensures { λ _. ⌜ readOf 20 (slipOf (deskOf (now (input .entry)))) ≡ deskOf (now (input .entry)) ⌝ }
 {
     let mut slip = [0u8; 87];
     let size = desk_slip(input, &mut slip);

@@ -10,7 +10,7 @@ pub fn length_count(n: u64) -> usize
 }
 
 // Whether k octets after the first are the form of the length n.
-pub fn is_shortest(k: usize, n: u64) -> bool
+pub(crate) fn is_shortest(k: usize, n: u64) -> bool
     ensures { λ r. ⌜ r ≡ shortest k n ⌝ }
 {
     if n < 128 {

@@ -62,7 +62,7 @@ fn read_new_oid(s: &[u8], count: usize, x: &[u8]) -> Spot
 }
 
 // The content x of an extension that stands after the first count of s.
-pub fn read_body(s: &[u8], count: usize, x: &[u8]) -> Fit
+pub(crate) fn read_body(s: &[u8], count: usize, x: &[u8]) -> Fit
     ensures { λ r. ⌜ r ≡ fitOf (extensionBody (oidsOf count [] (now (s .entry))) .dec (now (x .entry))) ⌝ }
 {
     let oid = read_new_oid(s, count, x);

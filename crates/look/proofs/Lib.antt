@@ -1,4 +1,1 @@
-pub mod ReasonLaws
-pub mod StandingCases
-pub mod LookLaws
 pub mod LookCases

@@ -1,17 +1,22 @@
--- The values of an entry: what the code answers of its reading.
--- whyOf, standingOf, untilOf, extensionsSize; viewOf, lookOf. lookAt: the same by the entry's octets
--- from a place on, with lastSeen, nextSeen, thisSeen, statusSeen and entrySeen for what follows;
--- StandingIs, RevokedIs: by the octets of a status that is read.
+-- The values of an entry: those of its reading, and those that the code looks up at the places where the layout has them.
+-- whyOf, standingOf, untilOf, extensionsSize, entrySeen: of a reading. insideOf, behindOf, whyIn, standingIn, timesIn, untilIn,
+-- restSize, viewOf, seenIn: of octets, with no test. That the two are the same for an entry is in SeenLaws; what is looked up in
+-- other octets says nothing.
 -- Assumes nothing.
 use Prim.Native.Nat.{ℕ, _+_, _-_}
-use mathlib.Core.Path.{_≡_}
-use mathlib.Core.List.{List}
+use mathlib.Core.Bool.{cond}
+use mathlib.Core.List.{List, []}
 use mathlib.Core.Option.{Option, none, some}
-use lib.ListN.{length}
-use Rattle.codec.specs.Codec.{Read, read, broke, Got, got, bad}
+use lib.Dec.{eqb}
+use lib.ListN.{length, getD, take, drop}
+use Rattle.element.specs.Header.{headerOf}
+use Rattle.calendar.specs.Plain.{plainSeconds}
 use Rattle.codec.specs.Option.{optionEnc}
 use Rattle.layout.specs.Reading.{Status, good, revoked, unknown, Extension, Entry}
-use Rattle.layout.specs.Format.{revokedBody, certStatus, extensions}
+use Rattle.layout.specs.Format.{extensions}
+use Rattle.spots.specs.Spots.{expected}
+use Rattle.spots.specs.declared.Spot.{Spot}
+use Rattle.spots.specs.declared.Spot.the-variants as spot
 use Rattle.look.specs.declared.Why.{Why}
 use Rattle.look.specs.declared.Why.the-variants as why
 use Rattle.look.specs.declared.Standing.{Standing}
@@ -19,9 +24,8 @@ use Rattle.look.specs.declared.Standing.the-variants as standing
 use Rattle.look.specs.declared.Until.{Until}
 use Rattle.look.specs.declared.Until.the-variants as until
 use Rattle.look.specs.declared.View.{View}
-use Rattle.look.specs.declared.Look.{Look}
-use Rattle.look.specs.declared.Look.the-variants as look
 
+-- ── of a reading ──
 -- a reason, or that there is none
 abbrev pub whyOf : Option ℕ → Why
 whyOf none = why.Absent
@@ -43,36 +47,67 @@ abbrev pub extensionsSize : Option (List Extension) → ℕ
 extensionsSize x = length (optionEnc (extensions .enc) x)
 
 -- the values of an entry of n octets: its extensions are the last of them
-abbrev pub lastSeen : ℕ → Standing → ℕ → Until → Option (List Extension) → View
-lastSeen n st t u x = record { standing = st; this = t; until = u; from = n - extensionsSize x; len = extensionsSize x }
-
--- by what is read from nextUpdate on, from thisUpdate on, from the status on, and by the whole
-abbrev pub nextSeen : ℕ → Standing → ℕ → Option ℕ × Option (List Extension) → View
-nextSeen n st t y = lastSeen n st t (untilOf (y .0)) (y .1)
-
-abbrev pub thisSeen : ℕ → Standing → ℕ × (Option ℕ × Option (List Extension)) → View
-thisSeen n st y = nextSeen n st (y .0) (y .1)
-
-abbrev pub statusSeen : ℕ → Status × (ℕ × (Option ℕ × Option (List Extension))) → View
-statusSeen n y = thisSeen n (standingOf (y .0)) (y .1)
-
 abbrev pub entrySeen : ℕ → Entry → View
-entrySeen n e = lastSeen n (standingOf (e .status)) (e .thisUpdate) (untilOf (e .nextUpdate)) (e .extensions)
+entrySeen n e = record {
+  standing = standingOf (e .status);
+  this = e .thisUpdate;
+  until = untilOf (e .nextUpdate);
+  from = n - extensionsSize (e .extensions);
+  len = extensionsSize (e .extensions);
+}
 
--- the values of the entry at the head of a list, or the place that is wrong
-unfoldable pub lookOf : Got Entry → Look
-lookOf (got e n) = look.Seen (entrySeen n e)
-lookOf (bad p) = look.Wrong p
+-- ── of octets ──
+-- what follows a header, and what follows the content behind it; nothing where there is no such header
+abbrev pub insideSpot : List ℕ → Spot → List ℕ
+insideSpot s (spot.At b l) = drop b s
+insideSpot s (spot.Wrong p) = []
 
--- the same by a part that starts at a place
-unfoldable pub lookAt : {A : Type 0} → (A → View) → ℕ → Read A → Look
-lookAt f at (read a) = look.Seen (f a)
-lookAt f at (broke p) = look.Wrong (at + p)
+abbrev pub behindSpot : List ℕ → Spot → List ℕ
+behindSpot s (spot.At b l) = drop (b + l) s
+behindSpot s (spot.Wrong p) = []
 
--- the answer for a status that is read
-unfoldable pub StandingIs : List ℕ → Standing → Type 0
-StandingIs s r = (st : Status) (n : ℕ) → certStatus .dec s ≡ got st n → r ≡ standingOf st
+-- what follows the header of the sequence at the head
+unfoldable pub insideOf : List ℕ → List ℕ
+insideOf s = insideSpot s (expected 0x30 (headerOf s))
 
--- the answer for the content of a revoked status that is read
-unfoldable pub RevokedIs : List ℕ → Standing → Type 0
-RevokedIs s r = (x : ℕ × Option ℕ) → revokedBody .dec s ≡ read x → r ≡ standing.Revoked (x .0) (whyOf (x .1))
+-- what follows the sequence at the head
+unfoldable pub behindOf : List ℕ → List ℕ
+behindOf s = behindSpot s (expected 0x30 (headerOf s))
+
+-- the reason in a revoked status: a time alone takes 17 octets; else the code is the last octet
+unfoldable pub whyIn : List ℕ → Why
+whyIn s = cond (eqb (getD s 1 0) 17) why.Absent (why.Given (getD s 23 0))
+
+-- a status, by its tag
+unfoldable pub standingIn : List ℕ → Standing
+standingIn s =
+    cond (eqb (getD s 0 0) 0x80) standing.Good
+    (cond (eqb (getD s 0 0) 0x82) standing.Unknown
+    (standing.Revoked (plainSeconds (take 15 (drop 4 s))) (whyIn s)))
+
+-- what follows a status
+unfoldable pub timesIn : List ℕ → List ℕ
+timesIn s = drop (2 + getD s 1 0) s
+
+-- nextUpdate, by its tag behind thisUpdate
+unfoldable pub untilIn : List ℕ → Until
+untilIn s = cond (eqb (getD s 17 0) 0xa0) (until.At (plainSeconds (take 15 (drop 21 s)))) until.Absent
+
+-- how many octets follow the times
+unfoldable pub restSize : List ℕ → Until → ℕ
+restSize s (until.At n) = length (drop 36 s)
+restSize s until.Absent = length (drop 17 s)
+
+-- the values of an entry of n octets with this status, by its times
+unfoldable pub viewOf : ℕ → Standing → List ℕ → View
+viewOf n st s = record {
+  standing = st;
+  this = plainSeconds (take 15 (drop 2 s));
+  until = untilIn s;
+  from = n - restSize s (untilIn s);
+  len = restSize s (untilIn s);
+}
+
+-- the values of an entry
+unfoldable pub seenIn : List ℕ → View
+seenIn s = viewOf (length s) (standingIn (behindOf (insideOf s))) (timesIn (behindOf (insideOf s)))

@@ -1,10 +1,9 @@
-// The values of the entry at the head of a lent part: its status, its times, and where its extensions
-// are; or the place that is wrong.
+// The values of an entry that was judged before: its status, its times, and where its extensions are.
+// Nothing is tested again: the values are looked up at the places where the layout has them.
 //
-// No public function here has a requirement. A wrong place is counted from the start of the part that
-// was lent. Nothing is copied.
+// No public function here has a requirement: octets that are no entry get values too, and they say
+// nothing. Nothing is copied.
 mod looks; // the values of an entry
-mod standings; // the values of a status
 
 pub use looks::look_at;
 
@@ -34,15 +33,8 @@ pub struct View {
     // thisUpdate, in seconds since 1970.
     pub this: u64,
     pub until: Until,
-    // Where its extensions start, header included, and how many octets they take: none where they are
-    // absent.
+    // Where its extensions start, header included, and how many octets they take, to the entry's end:
+    // none where they are absent.
     pub from: usize,
     pub len: usize,
-}
-
-// The entry at the head of a part.
-pub enum Look {
-    Seen(View),
-    // The place that is wrong.
-    Wrong(usize),
 }

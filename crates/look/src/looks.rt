@@ -1,133 +1,161 @@
-// The values of an entry: s is the entry up to its end, at is the place where a part of it starts, and
-// what was read before that is handed on.
-use crate::Look;
+// The values of an entry, by the places of its parts: the CertID is stepped over by its header; a status
+// has a length of one octet; a time takes 17 octets, 15 of them its content; nextUpdate takes 19.
 use crate::Standing;
 use crate::Until;
 use crate::View;
-use crate::standings;
-use codec::Fit;
-use codec::Step;
-use numbers::Stamp;
+use crate::Why;
 use spots::Spot;
 ghost use Prim.Native.Nat.{_≤_};
 ghost use mathlib.Core.Path.{_≡_};
-ghost use lib.ListN.{length, drop};
-ghost use Rattle.layout.specs.Format.{singleBody, singleResponse};
-ghost use Rattle.ending.specs.Ends.{extensionsOn, nextOn};
-ghost use Rattle.entry.specs.Tails.{thisOn, statusOn};
-ghost use Rattle.look.specs.Looks.{lastSeen, nextSeen, thisSeen, statusSeen, entrySeen, lookAt, lookOf};
+ghost use lib.ListN.{length, getD, take, drop};
+ghost use Rattle.calendar.specs.Plain.{plainSeconds};
+ghost use Rattle.look.specs.Looks.{insideOf, behindOf, whyIn, standingIn, timesIn, untilIn, restSize, viewOf, seenIn};
 
-// Maybe extensions, and nothing more.
-fn from_extensions(s: &[u8], at: usize, standing: Standing, this: u64, until: Until) -> Look
-    requires { ⌜ at ≤ length (now s) ⌝ }
-    ensures { λ r. ⌜ r ≡ lookAt (lastSeen (length (now (s .entry))) standing this until) at (extensionsOn .dec (drop at (now (s .entry)))) ⌝ }
+// The octet at a place, 0 where there is none.
+fn octet_at(s: &[u8], at: usize) -> u8
+    ensures { λ r. ⌜ r ≡ getD (now (s .entry)) at 0 ⌝ }
 {
-    let rest = ending::extensions_maybe(&s[at..]);
-    match rest {
-        Fit::Breaks(p) => {
-            let place = at + p;
-            Look::Wrong(place)
-        }
-        Fit::Fits => {
-            let len = s.len() - at;
-            Look::Seen(View {
-                standing,
-                this,
-                until,
-                from: at,
-                len,
-            })
-        }
+    if at < s.len() {
+        return s[at];
     }
+    0
 }
 
-// Maybe nextUpdate, and what follows it.
-fn from_next(s: &[u8], at: usize, standing: Standing, this: u64) -> Look
-    requires { ⌜ at ≤ length (now s) ⌝ }
-    ensures { λ r. ⌜ r ≡ lookAt (nextSeen (length (now (s .entry))) standing this) at (nextOn .dec (drop at (now (s .entry)))) ⌝ }
+// What follows a place.
+fn tail<'a>(s: &'a [u8], at: usize) -> &'a [u8]
+    ensures { λ r. ⌜ now r ≡ drop at (now (s .entry)) ⌝ }
 {
-    if sequence::starts_with(&s[at..], 0xa0) {
-        let until = ending::read_next(&s[at..]);
-        match until {
-            Stamp::Wrong(p) => {
-                let place = at + p;
-                Look::Wrong(place)
-            }
-            Stamp::Read { seconds, next } => {
-                let from = at + next;
-                from_extensions(s, from, standing, this, Until::At(seconds))
-            }
-        }
-    } else {
-        from_extensions(s, at, standing, this, Until::Absent)
+    if s.len() < at {
+        return &s[..0];
     }
+    &s[at..]
 }
 
-// thisUpdate, and what follows it.
-fn from_this(s: &[u8], at: usize, standing: Standing) -> Look
-    requires { ⌜ at ≤ length (now s) ⌝ }
-    ensures { λ r. ⌜ r ≡ lookAt (thisSeen (length (now (s .entry))) standing) at (thisOn .dec (drop at (now (s .entry)))) ⌝ }
+// The seconds of the time whose content is the 15 octets from a place on; 0 where they are not all there.
+fn seconds_at(s: &[u8], at: usize) -> u64
+    ensures { λ r. ⌜ r ≡ plainSeconds (take 15 (drop at (now (s .entry)))) ⌝ }
 {
-    let this = numbers::read_time(&s[at..]);
-    match this {
-        Stamp::Wrong(p) => {
-            let place = at + p;
-            Look::Wrong(place)
-        }
-        Stamp::Read { seconds, next } => {
-            let from = at + next;
-            from_next(s, from, standing, seconds)
-        }
+    if s.len() < at {
+        return 0;
     }
+    if s.len() - at < 15 {
+        return 0;
+    }
+    let end = at + 15;
+    calendar::seconds_of(&s[at..end])
 }
 
-// The certificate's status, and what follows it.
-fn from_status(s: &[u8], at: usize) -> Look
-    requires { ⌜ at ≤ length (now s) ⌝ }
-    ensures { λ r. ⌜ r ≡ lookAt (statusSeen (length (now (s .entry)))) at (statusOn .dec (drop at (now (s .entry)))) ⌝ }
-{
-    let status = status::read_status(&s[at..]);
-    match status {
-        Step::Bad(p) => {
-            let place = at + p;
-            Look::Wrong(place)
-        }
-        Step::Taken(n) => {
-            let standing = standings::standing_of(&s[at..]);
-            let from = at + n;
-            from_this(s, from, standing)
-        }
-    }
-}
-
-// The CertID, and what follows it.
-fn from_cert(s: &[u8], at: usize) -> Look
-    requires { ⌜ at ≤ length (now s) ⌝ }
-    ensures { λ r. ⌜ r ≡ lookAt (entrySeen (length (now (s .entry)))) at (singleBody .dec (drop at (now (s .entry)))) ⌝ }
-{
-    let id = cert::read_cert(&s[at..]);
-    match id {
-        Step::Bad(p) => {
-            let place = at + p;
-            Look::Wrong(place)
-        }
-        Step::Taken(n) => {
-            let from = at + n;
-            from_status(s, from)
-        }
-    }
-}
-
-// The values of the entry at the head of s.
-pub fn look_at(s: &[u8]) -> Look
-    ensures { λ r. ⌜ r ≡ lookOf (singleResponse .dec (now (s .entry))) ⌝ }
+// What follows the header of the sequence at the head; nothing where there is none.
+fn inside<'a>(s: &'a [u8]) -> &'a [u8]
+    ensures { λ r. ⌜ now r ≡ insideOf (now (s .entry)) ⌝ }
 {
     let spot = spots::expect(s, 0x30);
     match spot {
-        Spot::Wrong(p) => Look::Wrong(p),
+        Spot::Wrong(_) => &s[..0],
+        Spot::At { start, len: _ } => &s[start..],
+    }
+}
+
+// What follows the sequence at the head; nothing where there is none.
+fn behind<'a>(s: &'a [u8]) -> &'a [u8]
+    ensures { λ r. ⌜ now r ≡ behindOf (now (s .entry)) ⌝ }
+{
+    let spot = spots::expect(s, 0x30);
+    match spot {
+        Spot::Wrong(_) => &s[..0],
         Spot::At { start, len } => {
             let end = start + len;
-            from_cert(&s[..end], start)
+            &s[end..]
         }
     }
+}
+
+// The reason in a revoked status: its code is the last octet, where there is more than the time.
+fn why_in(status: &[u8]) -> Why
+    ensures { λ r. ⌜ r ≡ whyIn (now (status .entry)) ⌝ }
+{
+    if octet_at(status, 1) == 17 {
+        return Why::Absent;
+    }
+    let code = octet_at(status, 23);
+    Why::Given(code)
+}
+
+// A status, by its tag.
+fn standing_in(status: &[u8]) -> Standing
+    ensures { λ r. ⌜ r ≡ standingIn (now (status .entry)) ⌝ }
+{
+    let tag = octet_at(status, 0);
+    if tag == 0x80 {
+        return Standing::Good;
+    }
+    if tag == 0x82 {
+        return Standing::Unknown;
+    }
+    let at = seconds_at(status, 4);
+    let reason = why_in(status);
+    Standing::Revoked { at, reason }
+}
+
+// What follows a status: the times.
+fn times_in<'a>(status: &'a [u8]) -> &'a [u8]
+    ensures { λ r. ⌜ now r ≡ timesIn (now (status .entry)) ⌝ }
+{
+    let size = octet_at(status, 1) as usize;
+    tail(status, 2 + size)
+}
+
+// nextUpdate, by its tag behind thisUpdate.
+fn until_in(times: &[u8]) -> Until
+    ensures { λ r. ⌜ r ≡ untilIn (now (times .entry)) ⌝ }
+{
+    if octet_at(times, 17) == 0xa0 {
+        let seconds = seconds_at(times, 21);
+        return Until::At(seconds);
+    }
+    Until::Absent
+}
+
+// How many octets follow the times.
+fn rest_size(times: &[u8], until: Until) -> usize
+    ensures { λ r. ⌜ r ≡ restSize (now (times .entry)) until ⌝ }
+{
+    match until {
+        Until::At(_) => {
+            let rest = tail(times, 36);
+            rest.len()
+        }
+        Until::Absent => {
+            let rest = tail(times, 17);
+            rest.len()
+        }
+    }
+}
+
+// The values of an entry of this size, with its status, by its times.
+fn view_of(size: usize, standing: Standing, times: &[u8]) -> View
+    requires { ⌜ length (now times) ≤ size ⌝ }
+    ensures { λ r. ⌜ r ≡ viewOf size standing (now (times .entry)) ⌝ }
+{
+    let this = seconds_at(times, 2);
+    let until = until_in(times);
+    let len = rest_size(times, until);
+    let from = size - len;
+    View {
+        standing,
+        this,
+        until,
+        from,
+        len,
+    }
+}
+
+// The values of an entry.
+pub fn look_at(s: &[u8]) -> View
+    ensures { λ r. ⌜ r ≡ seenIn (now (s .entry)) ⌝ }
+{
+    let status = behind(inside(s));
+    let standing = standing_in(status);
+    let times = times_in(status);
+    view_of(s.len(), standing, times)
 }

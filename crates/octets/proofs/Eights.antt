@@ -14,8 +14,7 @@ use mir.Val.{Fits}
 use borrow.Author.Tests.{eq-eqb}
 use Rattle.octets.specs.Octets.{Octets}
 use Rattle.octets.specs.OctetsLaws.{octets-from, octets-take, octets-drop}
-use Rattle.octets.specs.Number.{valueOf, octetsOf}
-use Rattle.octets.specs.NumberLaws.{octets-value}
+use Rattle.octets.specs.Number.{lowFirst}
 use Rattle.octets.specs.Same.{sameOf}
 use Rattle.octets.specs.SameLaws.{same-true, same-refl}
 
@@ -23,10 +22,10 @@ use Rattle.octets.specs.SameLaws.{same-true, same-refl}
 
 -- eight octets, each with its weight
 weights : (t : List ℕ) → 8 ≤ length t
-    → getD t 0 0 * 72057594037927936 + getD t 1 0 * 281474976710656 + getD t 2 0 * 1099511627776 + getD t 3 0 * 4294967296
-    + (getD t 4 0 * 16777216 + getD t 5 0 * 65536 + getD t 6 0 * 256 + getD t 7 0)
-    ≡ valueOf (take 8 t)
-unfolding valueOf
+    → getD t 0 0 + getD t 1 0 * 256 + getD t 2 0 * 65536 + getD t 3 0 * 16777216
+    + (getD t 4 0 * 4294967296 + getD t 5 0 * 1099511627776 + getD t 6 0 * 281474976710656 + getD t 7 0 * 72057594037927936)
+    ≡ lowFirst (take 8 t)
+unfolding lowFirst
 weights [] l = absurd (omega arith)
 weights (a ∷ []) l = absurd (omega arith)
 weights (a ∷ b ∷ []) l = absurd (omega arith)
@@ -40,9 +39,9 @@ weights (a ∷ b ∷ c ∷ d ∷ e ∷ f ∷ g ∷ h ∷ r) l = omega arith
 module _ (s : List ℕ) (at : ℕ) where
   -- the same at a place
   pub eight-is : at + 8 ≤ length s
-      → getD s at 0 * 72057594037927936 + getD s (at + 1) 0 * 281474976710656 + getD s (at + 2) 0 * 1099511627776 + getD s (at + 3) 0 * 4294967296
-      + (getD s (at + 4) 0 * 16777216 + getD s (at + 5) 0 * 65536 + getD s (at + 6) 0 * 256 + getD s (at + 7) 0)
-      ≡ valueOf (take 8 (drop at s))
+      → getD s at 0 + getD s (at + 1) 0 * 256 + getD s (at + 2) 0 * 65536 + getD s (at + 3) 0 * 16777216
+      + (getD s (at + 4) 0 * 4294967296 + getD s (at + 5) 0 * 1099511627776 + getD s (at + 6) 0 * 281474976710656 + getD s (at + 7) 0 * 72057594037927936)
+      ≡ lowFirst (take 8 (drop at s))
   eight-is h =
       let first : getD (drop at s) 0 0 ≡ getD s at 0 = getD-drop at s 0 0 ∙ ap (λ (k : ℕ). getD s k 0) (add-zero at) in
       rw (
@@ -59,8 +58,15 @@ module _ (s : List ℕ) (at : ℕ) where
 -- ---- two lists compared
 
 -- octets with one number and one length are one list
-one-list : (s t : List ℕ) → Octets s → Octets t → length s ≡ length t → valueOf s ≡ valueOf t → s ≡ t
-one-list s t p q l e = sym (octets-value s p) ∙ ap₂ octetsOf l e ∙ octets-value t q
+one-list : (s t : List ℕ) → Octets s → Octets t → length s ≡ length t → lowFirst s ≡ lowFirst t → s ≡ t
+unfolding lowFirst
+one-list [] [] p q l e = refl
+one-list [] (y ∷ t) p q l e = absurd (omega arith)
+one-list (x ∷ s) [] p q l e = absurd (omega arith)
+one-list (x ∷ s) (y ∷ t) p q l e =
+    let a : x < 256 = p .0 in
+    let b : y < 256 = q .0 in
+    ap₂ _∷_ (omega arith) (one-list s t (p .1) (q .1) (omega arith) (omega arith))
 
 -- lists that begin alike: the answer is that of the rest
 same-rest : (n : ℕ) (a b : List ℕ) → n ≤ length a → n ≤ length b → take n a ≡ take n b → sameOf a b ≡ sameOf (drop n a) (drop n b)
@@ -78,7 +84,7 @@ eight-octets : (s : List ℕ) → ((j : ℕ) → Fits w8 (getD s j 0)) → (i : 
 eight-octets s k i = octets-take 8 (drop i s) (octets-drop i s (octets-from s (λ j lt. k j .fits)))
 
 -- eight octets in two lists, as code knows them
-module _ (a b : List ℕ) (i x y : ℕ) (u : x ≡ valueOf (take 8 (drop i a))) (v : y ≡ valueOf (take 8 (drop i b))) where
+module _ (a b : List ℕ) (i x y : ℕ) (u : x ≡ lowFirst (take 8 (drop i a))) (v : y ≡ lowFirst (take 8 (drop i b))) where
   module _ (k : (j : ℕ) → Fits w8 (getD a j 0)) (m : (j : ℕ) → Fits w8 (getD b j 0)) (q : length a ≡ length b) (e : x ≡ y) where
     eights-same : i + 8 ≤ length a → take 8 (drop i a) ≡ take 8 (drop i b)
     eights-same h =
@@ -99,12 +105,12 @@ module _ (a b : List ℕ) (i x y : ℕ) (u : x ≡ valueOf (take 8 (drop i a))) 
     where
       go : (r : Bool) → sameOf a b ≡ r → false ≡ r
       go false e = refl
-      go true e = absurd (n (u ∙ ap (λ (l : List ℕ). valueOf (take 8 (drop i l))) (same-true a b e) ∙ sym v))
+      go true e = absurd (n (u ∙ ap (λ (l : List ℕ). lowFirst (take 8 (drop i l))) (same-true a b e) ∙ sym v))
 
--- what is left has fewer than eight octets, and the last eight are equal
-module _ (a b : List ℕ) (x y : ℕ) (u : x ≡ valueOf (take 8 (drop (length a - 8) a))) (v : y ≡ valueOf (take 8 (drop (length a - 8) b))) where
+-- what is left has eight octets at most, and the last eight are equal
+module _ (a b : List ℕ) (x y : ℕ) (u : x ≡ lowFirst (take 8 (drop (length a - 8) a))) (v : y ≡ lowFirst (take 8 (drop (length a - 8) b))) where
   pub eights-end : ((j : ℕ) → Fits w8 (getD a j 0)) → ((j : ℕ) → Fits w8 (getD b j 0)) → length a ≡ length b → x ≡ y
-      → (i : ℕ) → (i ≤ length a) × (sameOf a b ≡ sameOf (drop i a) (drop i b)) → length a - i < 8 → 8 ≤ length a → true ≡ sameOf a b
+      → (i : ℕ) → (i ≤ length a) × (sameOf a b ≡ sameOf (drop i a) (drop i b)) → length a - 8 ≤ i → 8 ≤ length a → true ≡ sameOf a b
   eights-end k m q e i p l h =
       let o = eights-same a b (length a - 8) x y u v k m q e (omega arith) in
       let f = take-all 8 (drop (length a - 8) a) (omega (arith, length-drop (length a - 8) a)) in

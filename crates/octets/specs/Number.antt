@@ -1,5 +1,5 @@
 -- Whole numbers as octets, high octet first.
--- valueOf, octetsOf, numberAt. Their laws, over the width, are in NumberLaws.
+-- valueOf, octetsOf, numberAt; lowFirst. Their laws, over the width, are in NumberLaws.
 -- Assumes nothing.
 use Prim.Native.Nat.{ℕ, zero, suc, _+_, _-_, _*_, _/_, _%_, _^_}
 use mathlib.Core.List.{List, [], _∷_}
@@ -27,3 +27,8 @@ numberAt s at w =
     (cond (leb w (length s - at)) (Is (valueOf (take w (drop at s)))) Outside)
     Outside)
     Outside
+
+-- the number of octets that stand the other way round: each counts 256 times as much as the one before it
+unfoldable pub lowFirst : List ℕ → ℕ
+lowFirst [] = 0
+lowFirst (x ∷ s) = x + 256 * lowFirst s

@@ -2,53 +2,64 @@
 ghost use mathlib.Core.Path.{_≡_};
 ghost use Prim.Native.Nat.{_+_, _≤_};
 ghost use lib.ListN.{length, take, drop};
-ghost use Rattle.octets.specs.Number.{valueOf};
+ghost use Rattle.octets.specs.Number.{lowFirst};
 ghost use Rattle.octets.specs.Same.{sameOf};
 
-// The number of the eight octets at a place. In this form the compiler reads them at once.
+// The number of the eight octets at a place, the low octet first. In this form the compiler reads them
+// at once.
 fn eight(s: &[u8], at: usize) -> u64
     requires { ⌜ at + 8 ≤ length (now s) ⌝ }
-    ensures { λ r. ⌜ r ≡ valueOf (take 8 (drop at (now (s .entry)))) ⌝ }
+    ensures { λ r. ⌜ r ≡ lowFirst (take 8 (drop at (now (s .entry)))) ⌝ }
 {
-    let a = s[at] as u64 * 0x100_0000_0000_0000;
-    let b = s[at + 1] as u64 * 0x1_0000_0000_0000;
-    let c = s[at + 2] as u64 * 0x100_0000_0000;
-    let d = s[at + 3] as u64 * 0x1_0000_0000;
-    let e = s[at + 4] as u64 * 0x100_0000;
-    let f = s[at + 5] as u64 * 0x1_0000;
-    let g = s[at + 6] as u64 * 0x100;
-    let h = s[at + 7] as u64;
-    let high = a + b + c + d;
-    let low = e + f + g + h;
-    high + low
+    let a = s[at] as u64;
+    let b = s[at + 1] as u64 * 0x100;
+    let c = s[at + 2] as u64 * 0x1_0000;
+    let d = s[at + 3] as u64 * 0x100_0000;
+    let e = s[at + 4] as u64 * 0x1_0000_0000;
+    let f = s[at + 5] as u64 * 0x100_0000_0000;
+    let g = s[at + 6] as u64 * 0x1_0000_0000_0000;
+    let h = s[at + 7] as u64 * 0x100_0000_0000_0000;
+    let low = a + b + c + d;
+    let high = e + f + g + h;
+    low + high
 }
 
-// Whether two lists are as long and equal one by one.
+// The same one by one: of two lists that are as long.
+fn same_few(a: &[u8], b: &[u8]) -> bool
+    requires { ⌜ length (now a) ≡ length (now b) ⌝ }
+    ensures { λ r. ⌜ r ≡ sameOf (now (a .entry)) (now (b .entry)) ⌝ }
+{
+    let mut i: usize = 0;
+    while i < a.len() {
+        if a[i] != b[i] {
+            return false;
+        }
+        i += 1;
+    }
+    true
+}
+
+// Whether two lists are as long and equal one by one: by eights, the last of which may begin in the one
+// before it.
 pub fn same(a: &[u8], b: &[u8]) -> bool
     ensures { λ r. ⌜ r ≡ sameOf (now (a .entry)) (now (b .entry)) ⌝ }
 {
     if a.len() != b.len() {
         return false;
     }
+    if a.len() < 8 {
+        return same_few(a, b);
+    }
+    let last = a.len() - 8;
     let mut i: usize = 0;
-    while 8 <= a.len() - i {
+    while i < last {
         if eight(a, i) != eight(b, i) {
             return false;
         }
         i += 8;
     }
-    if 8 <= a.len() {
-        let last = a.len() - 8;
-        if eight(a, last) != eight(b, last) {
-            return false;
-        }
-        return true;
-    }
-    while i < a.len() {
-        if a[i] != b[i] {
-            return false;
-        }
-        i += 1;
+    if eight(a, last) != eight(b, last) {
+        return false;
     }
     true
 }

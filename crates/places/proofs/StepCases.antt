@@ -1,11 +1,12 @@
--- The cases of a step, by what response says of the place.
--- entry-sum, entry-end, part-entry, part-end, part-refused; place-sum, place-entry, place-end, place-refused.
+-- The cases of a step, by what is said of the place.
+-- step-sum, step-entry, step-end, step-refused; counted, part-beyond, part-short, part-entry, part-end, part-refused.
 -- Assumes nothing.
-use Prim.Native.Nat.{ℕ, _+_, _-_, _≤_}
+use Prim.Native.Nat.{ℕ, _+_, _-_, _≤_, _<_}
 use native.Mathlib.Omega.{arith}
-use mathlib.Core.Path.{_≡_, sym, _∙_}
+use mathlib.Core.Path.{_≡_, refl, sym, ap, _∙_}
 use mathlib.Core.List.{List, []}
-use lib.ListN.{length, getD, take, drop}
+use lib.ListN.{length, getD, take, drop, length-drop, drop-of-length-le}
+use lib.Seq.{take-nil, take-all, length-take-le}
 use mir.Syntax.{w8, w64}
 use mir.Val.{Fits}
 use Rattle.octets.specs.Octets.{Octets}
@@ -13,8 +14,9 @@ use Rattle.octets.specs.OctetsLaws.{octets-from}
 use Rattle.show.specs.Shown.{entryOf}
 use Rattle.show.specs.declared.Entry.{Entry}
 use Rattle.show.specs.declared.Entry.the-variants as entry
-use Rattle.walked.specs.Step.{partIn, partOf, placeIn, placeOf}
-use Rattle.walked.specs.StepLaws.{entry-has, has-inside, has-few}
+use Rattle.walked.specs.Step.{partIn, placeIn, placeOf, stepOf}
+use Rattle.walked.specs.StepLaws.{has-few}
+use Rattle.walked.specs.declared.Step.{Step}
 
 -- what a slice of octets holds is octets
 abbrev Known : List ℕ → Type 0
@@ -23,41 +25,58 @@ Known s = (i : ℕ) → Fits w8 (getD s i 0)
 known-octets : (s : List ℕ) → Known s → Octets s
 known-octets s w = octets-from s (λ i lt. w i .fits)
 
+-- a step, by what is said and by the place after it
+abbrev step : Entry → ℕ → Step
+step x k = record { says = x; place = k }
+
+-- ── what is said, and the place after it ──
 module _ (s : List ℕ) (k : ℕ) (x : Entry) (q : x ≡ entryOf s k) where
-  -- ── an entry ──
   module _ (start n : ℕ) (f : x ≡ entry.At start n) where
-    pub entry-end : Known s → start + n ≤ length s
-    entry-end w = has-inside s (known-octets s w) k start n (sym q ∙ f)
+    pub step-sum : Known s → Fits w64 (k + 1)
+    step-sum w = record { fits = omega (arith, has-few s (known-octets s w) k start n (sym q ∙ f)) }
 
-    pub entry-sum : Known s → Fits w64 (start + n)
-    entry-sum w = record { fits = omega (arith, entry-end w, entry-has s k start n (sym q ∙ f) .small) }
+    pub step-entry : step x (k + 1) ≡ stepOf s k
+    unfolding stepOf placeOf placeIn
+    step-entry = rw (← q, f)
 
-    pub part-entry : take (start + n - start) (drop start s) ≡ partOf s k
-    unfolding partOf partIn
-    part-entry = let e : start + n - start ≡ n = omega arith in rw (e, ← q, f)
+  pub step-end : x ≡ entry.End → step x k ≡ stepOf s k
+  unfolding stepOf placeOf placeIn
+  step-end f = rw (← q, f)
 
-    pub place-sum : Known s → Fits w64 (k + 1)
-    place-sum w = record { fits = omega (arith, has-few s (known-octets s w) k start n (sym q ∙ f)) }
+  pub step-refused : (n c : ℕ) → x ≡ entry.Refused n c → step x k ≡ stepOf s k
+  unfolding stepOf placeOf placeIn
+  step-refused n c f = rw (← q, f)
 
-    pub place-entry : k + 1 ≡ placeOf s k
-    unfolding placeOf placeIn
-    place-entry = rw (← q, f)
+-- ── the part ──
+-- the first n octets are n octets, where there are so many
+pub counted : (n : ℕ) (s : List ℕ) → n ≤ length s → n ≡ length (take n s)
+counted n s h = sym (length-take-le n s h)
 
-  -- ── no more entries ──
-  pub part-end : x ≡ entry.End → [] ≡ partOf s k
-  unfolding partOf partIn
-  part-end f = rw (← q, f)
+module _ (s : List ℕ) (x : Entry) where
+  module _ (start n : ℕ) (f : x ≡ entry.At start n) where
+    pub part-beyond : length s < start → [] ≡ partIn s x
+    unfolding partIn
+    part-beyond lt = rw (f, drop-of-length-le s {i = start} (omega (arith, lt)), take-nil {A = ℕ} n)
 
-  pub place-end : x ≡ entry.End → k ≡ placeOf s k
-  unfolding placeOf placeIn
-  place-end f = rw (← q, f)
+    -- the rest, as it is lent
+    abbrev rest : List ℕ
+    rest = take (length s - start) (drop start s)
 
-  -- ── a refusal ──
-  module _ (n c : ℕ) (f : x ≡ entry.Refused n c) where
-    pub part-refused : [] ≡ partOf s k
-    unfolding partOf partIn
-    part-refused = rw (← q, f)
+    whole : rest ≡ drop start s
+    whole = take-all (length s - start) (drop start s) (simp length-drop (omega arith))
 
-    pub place-refused : k ≡ placeOf s k
-    unfolding placeOf placeIn
-    place-refused = rw (← q, f)
+    pub part-short : length rest < n → rest ≡ partIn s x
+    unfolding partIn
+    part-short lt = whole ∙ sym (rw f (take-all n (drop start s) (let l = ap (λ (y : List ℕ). length y) whole in omega (arith, lt, l))))
+
+    pub part-entry : take n rest ≡ partIn s x
+    unfolding partIn
+    part-entry = rw f (ap (take n) whole)
+
+  pub part-end : x ≡ entry.End → [] ≡ partIn s x
+  unfolding partIn
+  part-end f = rw f
+
+  pub part-refused : (n c : ℕ) → x ≡ entry.Refused n c → [] ≡ partIn s x
+  unfolding partIn
+  part-refused n c f = rw f

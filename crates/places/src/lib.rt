@@ -1,8 +1,9 @@
-// A step of a walk, by the response and the place: the octets that it hands out, and the place after it.
+// A step of a walk, by the response and the place: what it says with the place after it, and the octets
+// that it hands out.
 //
-// No public function here has a requirement: a place may be any number, and the response any octets. At
-// the end, and with a refusal, a step hands out nothing and the place stays.
-mod places; // both, by what response says of the place
+// No public function here has a requirement: a place may be any number, the response any octets, and what
+// is said any answer. `step_at` judges the response; `part_in` does not, and takes what was said.
+mod places; // both, by what is said of the place
 
-pub use places::part_at;
-pub use places::place_after;
+pub use places::part_in;
+pub use places::step_at;

@@ -1,35 +1,41 @@
 // A step of a walk, by the response and the place.
 use show::Entry;
+use walked::Step;
 ghost use mathlib.Core.Path.{_≡_};
-ghost use Rattle.walked.specs.Step.{partOf, placeOf};
+ghost use Rattle.walked.specs.Step.{partIn, stepOf};
 
-// The octets of the entry at this place, header included: the caller's own octets; nothing where
-// there is no entry.
-pub fn part_at<'a>(s: &'a [u8], place: usize) -> &'a [u8]
-    ensures { λ r. ⌜ now r ≡ partOf (now (s .entry)) place ⌝ }
+// What a step from this place says, and the place after it: one more where there is an entry.
+pub fn step_at(s: &[u8], place: usize) -> Step
+    ensures { λ r. ⌜ r ≡ stepOf (now (s .entry)) place ⌝ }
 {
-    let entry = show::entry_at(s, place);
-    match entry {
-        Entry::At { start, len } => {
-            let end = start + len;
-            &s[start..end]
+    let says = show::entry_at(s, place);
+    match says {
+        Entry::At { .. } => {
+            let later = place + 1;
+            Step { says, place: later }
         }
-        Entry::End => &s[..0],
-        Entry::Refused { .. } => &s[..0],
+        Entry::End => Step { says, place },
+        Entry::Refused { .. } => Step { says, place },
     }
 }
 
-// The place after a step from this place: one more where there is an entry.
-pub fn place_after(s: &[u8], place: usize) -> usize
-    ensures { λ r. ⌜ r ≡ placeOf (now (s .entry)) place ⌝ }
+// The octets of the entry that is said to be there, as far as s has them: the caller's own octets;
+// nothing where no entry is said to be.
+pub fn part_in<'a>(s: &'a [u8], says: Entry) -> &'a [u8]
+    ensures { λ r. ⌜ now r ≡ partIn (now (s .entry)) says ⌝ }
 {
-    let entry = show::entry_at(s, place);
-    match entry {
-        Entry::At { .. } => {
-            let later = place + 1;
-            later
+    match says {
+        Entry::At { start, len } => {
+            if s.len() < start {
+                return &s[..0];
+            }
+            let rest = &s[start..];
+            if rest.len() < len {
+                return rest;
+            }
+            &rest[..len]
         }
-        Entry::End => place,
-        Entry::Refused { .. } => place,
+        Entry::End => &s[..0],
+        Entry::Refused { .. } => &s[..0],
     }
 }

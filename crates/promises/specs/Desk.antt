@@ -1,10 +1,12 @@
 -- The desk's program: from the octets of its input to the line that it writes.
--- question-form, question-fields; desk-asks, desk-refuses, desk-short; desk-slip, desk-read; desk-line; case.
+-- question-form, question-fields, question-name; desk-asks, desk-refuses, desk-short; desk-slip; desk-line; kept, kept-chunk,
+-- kept-enough, kept-same-line; case.
 -- `deskOf` is the answer to an input, a question of 353 octets and then the response (question: Asked), `lineOf` the line
--- that deskline::line_for writes (question: Line). What is read from outside and written there, no theorem says.
+-- that deskline::line_for writes (question: Line), `keptOf` what intake::keep has kept of an input (intake: Kept). What is read
+-- from outside and written there, no theorem says.
 -- Assumes nothing.
-use Prim.Native.Nat.{ℕ, _≤_, _<_}
-use mathlib.Core.Logic.{_↔_}
+use Prim.Native.Nat.{ℕ, _+_, _≤_, _<_}
+use mathlib.Core.Logic.{_⊎_, _↔_}
 use mathlib.Core.Path.{_≡_, refl}
 use mathlib.Core.Bool.{true, false}
 use mathlib.Core.List.{List, [], _∷_, _++_}
@@ -24,6 +26,9 @@ use Rattle.question.specs.SizeLaws.{asked-sized}
 use Rattle.question.specs.Line.{lineOf}
 use Rattle.question.specs.LineLaws.{desk-fits, desk-most}
 use Rattle.question.specs.Examples as examples
+use Rattle.intake.specs.Kept.{keptOf, keptWith, keptIn, Holds}
+use Rattle.intake.specs.KeptLaws.{holds-next, kept-either}
+use Rattle.intake.specs.SameLineLaws as same
 
 -- a question keeps its form: 353 octets, kind 51 hex, a Name of at most 256 octets, and zeros after the Name
 pub question-form : (q : List ℕ) → questionOk 20 q ≡ true
@@ -62,7 +67,8 @@ desk-refuses s = desk.asked-broken (take 353 s) (drop 353 s)
 pub desk-short : (s : List ℕ) → length s < 353 → deskOf s ≡ refused 1 0
 desk-short = desk.desk-short
 
--- every answer can be written as a slip, of at most 87 octets, and is read back from it
+-- every answer can be written as a slip, of at most 87 octets, and is read back from it; of a call, whose octets its types
+-- say, without that premise: contracts: ReadBack
 pub desk-slip : (s : List ℕ) → Octets s → (slipOk (deskOf s) ≡ true) × (length (slipOf (deskOf s)) ≤ 87) × (readOf 20 (slipOf (deskOf s)) ≡ deskOf s)
 unfolding deskOf
 desk-slip s o = (desk-fits s o, desk-most s, read-written (deskOf s) (desk-fits s o) 20 (λ c. asked-sized (take 353 s) (drop 353 s)))
@@ -71,6 +77,25 @@ desk-slip s o = (desk-fits s o, desk-most s, read-written (deskOf s) (desk-fits 
 pub desk-line : (s : List ℕ) → lineOf s ≡ hexOf (slipOf (deskOf s)) ++ (10 ∷ [])
 unfolding lineOf
 desk-line s = refl
+
+-- of an input that comes in chunks the program keeps the beginning that there is room for, chunk by chunk
+pub kept : (room : ℕ) (l : List ℕ) → keptOf room l ≡ take room l
+unfolding keptOf
+kept room l = refl
+
+pub kept-chunk : (space : List ℕ) (done : ℕ) (l chunk : List ℕ) → Holds space done l
+    → Holds (keptIn space done chunk) (length (keptWith space done chunk)) (l ++ chunk)
+kept-chunk space done l chunk h = holds-next space done l h chunk _ _ refl refl
+
+-- in a room for a question, the longest response and one octet more, what is kept is the input, or a beginning of it that is
+-- longer than a question and the longest response
+pub kept-enough : (room : ℕ) (l : List ℕ) → 353 + 16384 + 1 ≤ room
+    → (keptOf room l ≡ l) ⊎ ((353 + 16384 < length (keptOf room l)) × ((rest : List ℕ) × (keptOf room l ++ rest ≡ l)))
+kept-enough = kept-either
+
+-- and the line is that of the whole input, whatever its length
+pub kept-same-line : (room : ℕ) (l : List ℕ) → 353 + 16384 + 1 ≤ room → lineOf (keptOf room l) ≡ lineOf l
+kept-same-line = same.kept-same-line
 
 -- document 01's case: hashes all 11 and all 22, serial 05, now 1,114,909,200, tolerance 0, verdict 1, role 1, marks 0, key
 -- hash all 33, Name empty; response 30 03 0A 01 06: the line is `040406`

@@ -8,20 +8,17 @@ use Prim.Native.Nat.{ℕ, _≤_}
 use native.Mathlib.Omega.{arith}
 use mathlib.Core.Logic.{_↔_}
 use mathlib.Core.Path.{_≡_, refl, sym, ap, _∙_}
-use mathlib.Core.Bool.{Bool, true, false, cond}
 use mathlib.Core.List.{List, [], _∷_}
-use lib.Dec.{ltb}
 use lib.ListN.{length}
-use borrow.Author.Tests.{le-ltb}
 use Rattle.octets.specs.Octets.{Octets}
 use Rattle.layout.specs.Reading.{Reading, Basic, failed, basic}
 use Rattle.layout.specs.Limits.{Within, BasicOk, FailureOk}
-use Rattle.layout.specs.Read.{der, Outcome, reads, otherType, unfit, reading}
+use Rattle.layout.specs.Read.{der, reads, reading}
 use Rattle.layout.specs.Theorem.{sound, complete, unique, der-octets}
 use Rattle.layout.specs.Opened.{opened}
-use Rattle.spots.specs.ExpectLaws.{never}
-use Rattle.response.specs.Parts.{judgedAs, judgedOf}
-use Rattle.response.specs.JudgedLaws.{partsIn, judged-basic, basic-judged}
+use Rattle.response.specs.Parts.{judgedOf, partsIn}
+use Rattle.response.specs.JudgedLaws.{judged-basic, basic-judged}
+use Rattle.response.specs.OutcomeLaws.{failed-judged}
 use Rattle.response.specs.declared.Parts.{Parts}
 use Rattle.response.specs.declared.Judged.the-variants as judged
 
@@ -70,29 +67,13 @@ basic-exactly s o = (
   λ (b, w, z, i). (partsIn s b, basic-judged s b (rw i z) (ap reading i ∙ complete (basic b) w z)),
 )
 
--- what is judged an error response reads as its status
-judged-failed : (s : List ℕ) (n : ℕ) → judgedOf s ≡ judged.Failed n → reading s ≡ reads (failed n)
-unfolding judgedOf judgedAs
-judged-failed s n e = go (ltb 16384 (length s)) e
-  where
-    on : (o : Outcome) → judgedAs (length s) o ≡ judged.Failed n → o ≡ reads (failed n)
-    on (reads (basic b)) e = never (cc)
-    on (reads (failed m)) e = let i : m ≡ n = cc in ap (λ (k : ℕ). reads (failed k)) i
-    on otherType e = never (cc)
-    on (unfit p) e = never (cc)
-
-    go : (k : Bool) → cond k judged.TooLong (judgedAs (length s) (reading s)) ≡ judged.Failed n → reading s ≡ reads (failed n)
-    go true e = never (cc)
-    go false e = on (reading s) e
-
 -- and an error response exactly when it is 30 03 0A 01 and a status 1, 2, 3, 5 or 6
 pub error-exactly : (s : List ℕ) (n : ℕ) → Octets s
     → judgedOf s ≡ judged.Failed n ↔ FailureOk n × (s ≡ 0x30 ∷ 0x03 ∷ 0x0a ∷ 0x01 ∷ n ∷ [])
-unfolding judgedOf judgedAs
 error-exactly s n o = (
-  λ e. let (w, i) = sound s (failed n) o (judged-failed s n e) in (w, i ∙ error-form n),
+  λ e. let (w, i) = sound s (failed n) o (failed-judged s n .0 e .1) in (w, i ∙ error-form n),
   λ (w, i).
       let j : s ≡ der (failed n) = i ∙ sym (error-form n) in
       let z : length s ≡ 5 = ap length i in
-      rw (le-ltb 16384 (length s) (omega arith), ap reading j ∙ complete (failed n) w (rw (← j) (omega arith))),
+      failed-judged s n .1 (omega arith, ap reading j ∙ complete (failed n) w (rw (← j) (omega arith))),
 )

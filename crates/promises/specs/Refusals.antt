@@ -1,5 +1,6 @@
 -- What the check refuses (demand 2): refusal n exactly when row n of document 01's table applies and no earlier one does,
 -- what a refusal hands out, and that it is never good, revoked or unknown.
+-- When the test of each row applies, in plain terms, is in Rows.
 -- table; refused-exactly, handed-out, empty-card, error-status; never-revoked, always-answered, out-of-range.
 -- `tests` is the table from 1 to 16 as data, of a case: question, Name, size and what the octets read as (rules: Order).
 -- Assumes nothing.

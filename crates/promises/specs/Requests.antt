@@ -1,7 +1,7 @@
 -- The request for a card: the listed octets, how many they are, what they ask, and what the writer leaves.
 -- request-octets; request-size, request-asks, request-matches, one-request; request-written, request-refused, request-short.
 -- `requestOf` is what request::write_request writes (request: Request), `outputOf` and `outputIn` what it answers and
--- leaves in the lent buffer (fields: Output), `Typed` what is known of a card by its type (request: RequestLaws).
+-- leaves in the lent buffer (fields: Output), `Typed` what is known of a card by its type (request: Request).
 -- Assumes nothing.
 use Prim.Native.Nat.{ℕ, _+_, _≤_, _<_}
 use native.Mathlib.Omega.{arith}
@@ -19,7 +19,7 @@ use Rattle.matching.specs.CertForm.{cardForm}
 use Rattle.fields.specs.Output.{outputOf, outputIn}
 use Rattle.fields.specs.OutputLaws.{output-refused, output-short, output-written, kept-refused, kept-short, first-written}
 use Rattle.fields.specs.declared.Output.the-variants as output
-use Rattle.request.specs.Request.{requestForm, requestOf, requestRefusal}
+use Rattle.request.specs.Request.{requestForm, requestOf, requestRefusal, Typed}
 use Rattle.request.specs.RequestFormat.{ocspRequest, certOf}
 use Rattle.request.specs.RequestLaws as request
 
@@ -31,7 +31,7 @@ pub request-octets : (card : Card) → requestOf card
 unfolding requestForm cardForm
 request-octets card = refl
 
-module _ (card : Card) (t : request.Typed card) (fits : cardOk card ≡ true) where
+module _ (card : Card) (t : Typed card) (fits : cardOk card ≡ true) where
   -- 67 plus the serial's length octets, so 68 to 87
   pub request-size : (length (requestOf card) ≡ 67 + card .size) × (68 ≤ length (requestOf card)) × (length (requestOf card) ≤ 87)
   request-size =
@@ -47,7 +47,7 @@ module _ (card : Card) (t : request.Typed card) (fits : cardOk card ≡ true) wh
   request-matches = request.request-for card t fits
 
 -- two cards have two requests
-pub one-request : (a b : Card) → request.Typed a → request.Typed b → cardOk a ≡ true → cardOk b ≡ true → requestOf a ≡ requestOf b → a ≡ b
+pub one-request : (a b : Card) → Typed a → Typed b → cardOk a ≡ true → cardOk b ≡ true → requestOf a ≡ requestOf b → a ≡ b
 one-request = request.request-injective
 
 -- ── the writer, into a lent buffer ──

@@ -12,11 +12,10 @@ use Rattle.element.specs.Form.{formOf}
 use Rattle.layout.specs.Reading.{Basic, basic}
 use Rattle.layout.specs.Format.{signedBody, responseData, signatureBits}
 use Rattle.layout.specs.Read.{reads, reading}
-use Rattle.response.specs.Parts.{judgedOf}
+use Rattle.response.specs.Parts.{judgedOf, partsIn}
 use Rattle.response.specs.Stands.{Stands}
 use Rattle.response.specs.PartsLaws.{signed-stands, signature-stands}
 use Rattle.show.specs.Shown.{signedIn, signedOf, signatureIn, signatureOf}
-use Rattle.response.specs.JudgedLaws.{partsIn}
 use Rattle.show.specs.ShownLaws.{signed-shown, signature-shown}
 use Rattle.response.specs.declared.Parts.{Parts}
 use Rattle.response.specs.declared.Judged.{Judged}

@@ -24,7 +24,7 @@ use Rattle.fields.specs.OutputLaws.{output-refused, output-short, output-writte
 use Rattle.fields.specs.declared.Output.the-variants as output
 use Rattle.slip.specs.Examples.{shown}
 use Rattle.slip.specs.Table.{sizeOf}
-use Rattle.slip.specs.Slip.{slipOf, slipOk, slipRefusal, readOf}
+use Rattle.slip.specs.Slip.{slipOf, slipOk, slipRefusal, readOf, Hashed}
 use Rattle.slip.specs.SlipLaws as slip
 
 -- ── the octets, by kind ──
@@ -55,7 +55,7 @@ module _ (card : Card) (this next : ℕ) where
 -- ── written and read ──
 
 -- reading a slip that was written gives back its answer
-pub read-back : (a : Answer) → slipOk a ≡ true → slip.Hashed 20 a → readOf 20 (slipOf a) ≡ a
+pub read-back : (a : Answer) → slipOk a ≡ true → Hashed 20 a → readOf 20 (slipOf a) ≡ a
 read-back a ok h = slip.read-written a ok 20 h
 
 -- a slip that is read, written again, is the same octets, and its answer keeps the slip rules
@@ -63,11 +63,11 @@ pub written-back : (s : List ℕ) → Octets s → (readOf 20 s ≡ refused 17 0
 written-back = slip.written-read 20
 
 -- octets read as an answer that keeps the rules exactly where they are its slip
-pub exactly-its-slip : (s : List ℕ) → Octets s → (a : Answer) → slipOk a ≡ true → slip.Hashed 20 a → readOf 20 s ≡ a ↔ slipOf a ≡ s
+pub exactly-its-slip : (s : List ℕ) → Octets s → (a : Answer) → slipOk a ≡ true → Hashed 20 a → readOf 20 s ≡ a ↔ slipOf a ≡ s
 exactly-its-slip = slip.read-exactly 20
 
 -- a slip has its exact length: 78 good and unknown, 87 revoked, 3 a refusal
-pub slip-size : (a : Answer) → slip.Hashed 20 a → length (slipOf a) ≡ sizeOf 20 (kindOf (a .verdict))
+pub slip-size : (a : Answer) → Hashed 20 a → length (slipOf a) ≡ sizeOf 20 (kindOf (a .verdict))
 slip-size = slip.slip-length 20
 
 pub sizes : (sizeOf 20 1 ≡ 78) × (sizeOf 20 2 ≡ 87) × (sizeOf 20 3 ≡ 78) × (sizeOf 20 4 ≡ 3)

@@ -1,8 +1,8 @@
 -- The walk over the entries of a response, as document 01 has it.
 -- each-once, place-counts, end-said, end-for-ever, whole-list; refusal-number, refusal-said, refusal-for-ever.
--- A walk keeps the lent response and its place, the number of entries handed out (walked: Walk). `sayOf` is what
--- steps::step says, `handOf` what steps::part and walk::next hand out, `movedOf` the walk after it (walked: Walked); `handed n w`
--- is what n steps from w hand out, in order, and `after n w` the walk then (walked: Handed).
+-- A walk keeps the lent response and its place, the number of entries handed out (walked: Walk). walk::start makes
+-- `startOf`; of a step by walk::next `sayOf` is what it says, `handOf` what it hands out, and `movedOf` the walk after it
+-- (walked: Walked); `handed n w` is what n steps from w hand out, in order, and `after n w` the walk then (walked: Handed).
 -- Assumes nothing.
 use Prim.Native.Nat.{ℕ, _≤_}
 use mathlib.Core.Path.{_≡_}
@@ -14,10 +14,9 @@ use Rattle.codec.specs.Many.{forms}
 use Rattle.layout.specs.Reading.{Basic, basic}
 use Rattle.layout.specs.Format.{singleResponse}
 use Rattle.layout.specs.Read.{reads, reading}
-use Rattle.response.specs.Parts.{judgedOf}
+use Rattle.response.specs.Parts.{judgedOf, partsIn}
 use Rattle.response.specs.Refusals.{refusalOf}
 use Rattle.show.specs.Shown.{octetsIn, refused}
-use Rattle.response.specs.JudgedLaws.{partsIn}
 use Rattle.response.specs.declared.Parts.{Parts}
 use Rattle.response.specs.declared.Judged.{Judged}
 use Rattle.response.specs.declared.Judged.the-variants as judged

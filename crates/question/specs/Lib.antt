@@ -2,8 +2,6 @@ pub mod Asked
 pub mod AskedLaws
 pub mod FitsLaws
 pub mod SizeLaws
-pub mod Stands
-pub mod StandsLaws
 pub mod Line
 pub mod LineLaws
 pub mod Examples

@@ -24,8 +24,7 @@ use Rattle.rules.specs.RulingLaws.{accepted-answer}
 use Rattle.rules.specs.RefusalLaws.{answer-either}
 use Rattle.slip.specs.Numbers.{total}
 use Rattle.slip.specs.Table.{rowIn, rowOf, bodySize, sizeOf}
-use Rattle.slip.specs.Slip.{slipOf}
-use Rattle.slip.specs.CardOctetsLaws.{Sized}
+use Rattle.slip.specs.Slip.{slipOf, Sized}
 use Rattle.slip.specs.SlipLaws.{slip-length}
 use Rattle.question.specs.Asked.{questionIn, nameIn, questionOk, asked}
 use Rattle.question.specs.AskedLaws.{asked-broken, asked-kept}

@@ -1,5 +1,5 @@
 -- The cases of the function that writes the request for a card: what each return has learned.
--- size-inside, size-taken, few-octets, all-octets; unfit-answer, unfit-kept; few, size-fits; short-answer, short-kept;
+-- size-inside, size-taken, taken-few, taken-room; unfit-answer, unfit-kept; few, size-fits; short-answer, short-kept;
 -- written-answer, written-in.
 -- Assumes nothing.
 use Prim.Native.Nat.{ℕ, _+_, _≤_, _<_}
@@ -22,7 +22,7 @@ use Rattle.fields.specs.OutputLaws.{output-refused, output-short, output-writte
 use Rattle.request.specs.Request.{requestOf, requestRefusal}
 use Rattle.request.specs.RequestLaws.{request-length}
 
--- ---- the serial in its field of twenty octets, and the other parts of a request
+-- ---- the serial in its field of twenty octets
 
 module _ (field : List ℕ) (l : length field ≡ 20) (m : ℕ) (h : m ≤ 20) where
   pub size-inside : m ≤ length field
@@ -31,12 +31,11 @@ module _ (field : List ℕ) (l : length field ≡ 20) (m : ℕ) (h : m ≤ 20) w
   pub size-taken : m ≡ length (take m field)
   size-taken = sym (length-take-le m field size-inside)
 
-  module _ (head name key : List ℕ) (i : length head ≤ 11) (n : length name ≡ 20) (k : length key ≡ 20) where
-    pub few-octets : length head + length name + length key + length (take m field) ≤ 113
-    few-octets = omega (arith, size-taken)
+  pub taken-few : length (take m field) ≤ 20
+  taken-few = omega (arith, size-taken)
 
-    pub all-octets : (out : List ℕ) → 67 + m ≤ length out → 16 + (length head + length name + length key + length (take m field)) ≤ length out
-    all-octets out z = omega (arith, size-taken)
+  pub taken-room : (out : List ℕ) → 67 + m ≤ length out → 67 + length (take m field) ≤ length out
+  taken-room out z = omega (arith, size-taken)
 
 -- ---- the answers
 

@@ -1,23 +1,20 @@
--- The cases of the functions that write a request: writes in a row are one.
--- pair-in, heads-in; element-in; name-short, key-short, serial-short, name-room, key-room, serial-room, cert-in;
--- request-in.
+-- The cases of the functions that write a request: writes in a row are one, and so are two that overlap.
+-- front-in; hashes-in; first-taken, over-in; serial-in; request-in.
 -- Assumes nothing.
-use Prim.Native.Nat.{ℕ, _+_, _≤_, _<_}
+use Prim.Native.Nat.{ℕ, _+_, _-_, _≤_, _<_}
 use native.Mathlib.Omega.{arith}
-use mathlib.Core.Path.{_≡_, refl, sym, ap, _∙_}
-use mathlib.Core.Bool.{true}
-use mathlib.Core.List.{List, _++_}
-use lib.ListN.{length, length-append}
-use Rattle.octets.specs.Buffer.{putIn}
-use Rattle.octets.specs.BufferLaws.{splice-splice, put-in-room, put-in-length}
-use Rattle.element.specs.Tag.{tagOk}
-use Rattle.element.specs.Form.{headForm, formOf, headerIn}
-use Rattle.element.specs.FormLaws.{head-length}
-use Rattle.layout.specs.Kinds.{tag-30}
-use Rattle.matching.specs.CertForm.{cardForm}
-use Rattle.request.specs.Heads.{header-two, element-length, pairForm, pair-length, headsForm, heads-length, heads-form}
+use mathlib.Core.Path.{_≡_, refl, sym, ap, ap₂, _∙_}
+use mathlib.Core.List.{List, [], _∷_, _++_}
+use lib.ListN.{length, take, drop, length-append, length-drop, take-append-drop}
+use lib.Seq.{length-take-le, take-take, take-all, drop-drop}
+use Rattle.octets.specs.Buffer.{splice, putIn}
+use Rattle.octets.specs.BufferLaws.{splice-length, splice-take, splice-drop, splice-splice, put-in-room, put-in-length}
+use Rattle.element.specs.LengthLaws.{length-short}
+use Rattle.element.specs.Form.{formOf}
+use Rattle.matching.specs.CertForm.{nullHead}
+use Rattle.request.specs.Heads.{element-length, headsForm, frontForm, heads-is}
 use Rattle.request.specs.Request.{requestForm}
-use Rattle.request.specs.FormLaws.{card-length}
+use Rattle.request.specs.FormLaws.{form-parts}
 
 -- ---- writes in a row
 
@@ -34,118 +31,118 @@ next-in out at m a b o p q r e l =
 kept : (out : List ℕ) (at : ℕ) (a o : List ℕ) → o ≡ putIn out at a → length o ≡ length out
 kept out at a o q = ap length q ∙ put-in-length out at a
 
--- a header with a tag that fits
-header-in : (out : List ℕ) (at t n : ℕ) → tagOk t ≡ true → (p : List ℕ) → p ≡ headerIn out at t n → p ≡ putIn out at (headForm t n)
-unfolding headerIn
-header-in out at t n k p e = e ∙ rw k
+-- ---- writes that overlap
 
--- which is two octets
-head-two : (t n : ℕ) → n < 128 → length (headForm t n) ≡ 2
-head-two t n h = head-length t n ∙ header-two n h
+-- octets written over fewer at the same place
+splice-over : (out : List ℕ) (at : ℕ) (a b : List ℕ) → length a ≤ length b → at ≤ length out
+    → splice (splice out at a) at b ≡ splice out at b
+splice-over out at a b h l =
+    let e : at + length a + (length b - length a) ≡ at + length b = omega arith in
+    let rest : drop (at + length b) (splice out at a) ≡ drop (at + length b) out =
+    rw (← e) (sym (drop-drop (length b - length a) (at + length a) (splice out at a))
+    ∙ ap (drop (length b - length a)) (splice-drop out at a l)
+    ∙ drop-drop (length b - length a) (at + length a) out) in
+    ap₂ (λ (p q : List ℕ). p ++ (b ++ q)) (splice-take out at a at (omega arith) l) rest
 
--- ---- the five headers
+-- the first octets, then the last ones from a place that is not past the first
+splice-both : (out : List ℕ) (at : ℕ) (s : List ℕ) (a b : ℕ) → b ≤ a → a ≤ length s → at + length s ≤ length out
+    → splice (splice out at (take a s)) (at + b) (drop b s) ≡ splice out at s
+splice-both out at s a b h l z =
+    let u : List ℕ = take b s in
+    let d : List ℕ = drop b (take a s) in
+    let k : length u ≡ b = length-take-le b s (omega arith) in
+    let m : length (take a s) ≡ a = length-take-le a s l in
+    let e : take a s ≡ u ++ d = sym (take-append-drop b (take a s)) ∙ ap (λ (t : List ℕ). t ++ d) (take-take b a s h) in
+    let w : length (splice out at u) ≡ length out = splice-length out at u (omega arith) in
+    let first : splice out at (take a s) ≡ splice (splice out at u) (at + b) d =
+    ap (splice out at) e ∙ sym (splice-splice out at u d (omega arith)) ∙ ap (λ (n : ℕ). splice (splice out at u) (at + n) d) k in
+    ap (λ (t : List ℕ). splice t (at + b) (drop b s)) first
+    ∙ splice-over (splice out at u) (at + b) d (drop b s) (omega (arith, length-drop b (take a s), length-drop b s)) (omega arith)
+    ∙ ap (λ (n : ℕ). splice (splice out at u) (at + n) (drop b s)) (sym k)
+    ∙ splice-splice out at u (drop b s) (omega arith)
+    ∙ ap (splice out at) (take-append-drop b s)
 
-pub pair-in : (out : List ℕ) (at n : ℕ) → n ≤ 125 → at + 4 ≤ length out → (o p : List ℕ)
-    → o ≡ headerIn out at 0x30 (n + 2) → p ≡ headerIn o (at + 2) 0x30 n → p ≡ putIn out at (pairForm n)
-unfolding pairForm
-pair-in out at n h l o p e g =
-    let x = head-two 0x30 (n + 2) (omega arith) in
-    let y = head-two 0x30 n (omega arith) in
-    next-in out at (at + 2) (headForm 0x30 (n + 2)) (headForm 0x30 n) o p
-    (header-in out at 0x30 (n + 2) tag-30 o e) (header-in o (at + 2) 0x30 n tag-30 p g) (omega arith) (omega arith)
+-- ---- the parts
 
-module _ (out : List ℕ) (n : ℕ) (h : n ≤ 119) (l : 10 ≤ length out) (o : List ℕ) (e : o ≡ headerIn out 0 0x30 (n + 8)) where
-  first-in : o ≡ putIn out 0 (headForm 0x30 (n + 8))
-  first-in = header-in out 0 0x30 (n + 8) tag-30 o e
+-- what stands before the name hash: the headers of the sequences octet by octet, then the rest
+front-is : (size : ℕ) → size ≤ 20
+    → (0x30 ∷ (size + 65) ∷ 0x30 ∷ (size + 63) ∷ 0x30 ∷ (size + 61) ∷ 0x30 ∷ (size + 59) ∷ 0x30 ∷ (size + 57) ∷ []) ++ (nullHead ++ (0x04 ∷ 0x14 ∷ []))
+    ≡ frontForm nullHead 20 (57 + size)
+unfolding frontForm
+front-is size h =
+    let a : 57 + size + 8 ≡ size + 65 = omega arith in
+    let b : 57 + size + 6 ≡ size + 63 = omega arith in
+    let c : 57 + size + 4 ≡ size + 61 = omega arith in
+    let d : 57 + size + 2 ≡ size + 59 = omega arith in
+    let e : 57 + size ≡ size + 57 = omega arith in
+    rw (heads-is (57 + size) (omega arith), length-short 20 (omega arith), a, b, c, d, e)
 
-  module _ (p : List ℕ) (g : p ≡ putIn o 2 (pairForm (n + 4))) where
-    pub heads-in : (r : List ℕ) → r ≡ putIn p 6 (pairForm n) → r ≡ putIn out 0 (headsForm n)
-    unfolding headsForm
-    heads-in r i =
-        let x = head-two 0x30 (n + 8) (omega arith) in
-        let y = pair-length (n + 4) (omega arith) in
-        let z = pair-length n (omega arith) in
-        let k = kept out 0 (headForm 0x30 (n + 8)) o first-in in
-        let j = next-in o 2 6 (pairForm (n + 4)) (pairForm n) p r g i (omega arith) (omega arith) in
-        next-in out 0 2 (headForm 0x30 (n + 8)) (pairForm (n + 4) ++ pairForm n) o r first-in j (omega arith)
-        (omega (arith, length-append (pairForm (n + 4)) (pairForm n)))
+module _ (out : List ℕ) (size : ℕ) (h : size ≤ 20) (room : 23 ≤ length out) where
+  pub front-in : (o : List ℕ)
+      → o ≡ putIn out 0 (0x30 ∷ (size + 65) ∷ 0x30 ∷ (size + 63) ∷ 0x30 ∷ (size + 61) ∷ 0x30 ∷ (size + 59) ∷ 0x30 ∷ (size + 57) ∷ [])
+      → (p : List ℕ) → p ≡ putIn o 10 (nullHead ++ (0x04 ∷ 0x14 ∷ [])) → p ≡ putIn out 0 (frontForm nullHead 20 (57 + size))
+  front-in o e p f =
+      let heads : List ℕ = 0x30 ∷ (size + 65) ∷ 0x30 ∷ (size + 63) ∷ 0x30 ∷ (size + 61) ∷ 0x30 ∷ (size + 59) ∷ 0x30 ∷ (size + 57) ∷ [] in
+      next-in out 0 10 heads (nullHead ++ (0x04 ∷ 0x14 ∷ [])) o p e f refl (omega arith) ∙ ap (putIn out 0) (front-is size h)
 
--- ---- an element
+-- both hashes, the second with its header
+module _ (out name key : List ℕ) (n : length name ≡ 20) (k : length key ≡ 20) (room : 65 ≤ length out)
+    (o : List ℕ) (e : o ≡ putIn out 23 name) (p : List ℕ) (f : p ≡ putIn o 43 (0x04 ∷ 0x14 ∷ [])) where
+  pub hashes-in : (q : List ℕ) → q ≡ putIn p 45 key → q ≡ putIn out 23 (name ++ formOf 0x04 key)
+  unfolding formOf
+  hashes-in q g =
+      let h : formOf 0x04 key ≡ (0x04 ∷ 0x14 ∷ []) ++ key = rw (k, length-short 20 (omega arith)) in
+      let w = kept out 23 name o e in
+      let i = next-in o 43 45 (0x04 ∷ 0x14 ∷ []) key p q f g refl (omega arith) in
+      next-in out 23 43 name ((0x04 ∷ 0x14 ∷ []) ++ key) o q e i (omega arith) (omega arith)
+      ∙ ap (λ (z : List ℕ). putIn out 23 (name ++ z)) (sym h)
 
-pub element-in : (out : List ℕ) (at t : ℕ) (c : List ℕ) → tagOk t ≡ true → length c < 128 → at + (2 + length c) ≤ length out
-    → (o p : List ℕ) → o ≡ headerIn out at t (length c) → p ≡ putIn o (at + 2) c → p ≡ putIn out at (formOf t c)
-unfolding formOf
-element-in out at t c k h l o p e g =
-    let x = head-two t (length c) h in
-    next-in out at (at + 2) (headForm t (length c)) c o p (header-in out at t (length c) k o e) g (omega arith) (omega arith)
+-- the serial's octets, the first sixteen and then the last four
+pub first-taken : (serial : List ℕ) → 16 ≤ length serial → 16 ≡ length (take 16 serial)
+first-taken serial l = sym (length-take-le 16 serial l)
 
--- ---- the content of a CertID
+module _ (out serial : List ℕ) (h : length serial ≤ 20) (room : 67 + length serial ≤ length out) (l : 16 ≤ length serial) where
+  pub over-in : (o : List ℕ) → o ≡ putIn out 67 (take 16 serial) → (p : List ℕ)
+      → p ≡ putIn o (67 + (length serial - 4)) (take (length serial - (length serial - 4)) (drop (length serial - 4) serial))
+      → p ≡ putIn out 67 serial
+  over-in o e p f =
+      let b : ℕ = length serial - 4 in
+      let c = length-drop b serial in
+      let t : take (length serial - b) (drop b serial) ≡ drop b serial = take-all (length serial - b) (drop b serial) (omega arith) in
+      let i = length-take-le 16 serial l in
+      let w = kept out 67 (take 16 serial) o e in
+      f ∙ ap (putIn o (67 + b)) t ∙ put-in-room o (67 + b) (drop b serial) (omega arith)
+      ∙ ap (λ (z : List ℕ). splice z (67 + b) (drop b serial)) (e ∙ put-in-room out 67 (take 16 serial) (omega arith))
+      ∙ splice-both out 67 serial 16 b (omega arith) l room
+      ∙ sym (put-in-room out 67 serial room)
 
-module _ (out : List ℕ) (at : ℕ) (head name key serial : List ℕ)
-    (few : length head + length name + length key + length serial ≤ 113)
-    (room : at + (6 + (length head + length name + length key + length serial)) ≤ length out) where
-  -- where each element stands
-  abbrev nameAt : ℕ
-  nameAt = at + length head
-
-  abbrev keyAt : ℕ
-  keyAt = nameAt + 2 + length name
-
-  abbrev serialAt : ℕ
-  serialAt = keyAt + 2 + length key
-
-  pub name-short : length name < 128
-  name-short = omega arith
-
-  pub key-short : length key < 128
-  key-short = omega arith
-
-  pub serial-short : length serial < 128
-  serial-short = omega arith
-
-  module _ (o : List ℕ) (e : o ≡ putIn out at head) where
-    pub name-room : nameAt + (2 + length name) ≤ length o
-    name-room = omega (arith, kept out at head o e)
-
-    module _ (p : List ℕ) (f : p ≡ putIn o nameAt (formOf 0x04 name)) where
-      pub key-room : keyAt + (2 + length key) ≤ length p
-      key-room = omega (arith, kept out at head o e, kept o nameAt (formOf 0x04 name) p f)
-
-      module _ (q : List ℕ) (g : q ≡ putIn p keyAt (formOf 0x04 key)) where
-        pub serial-room : serialAt + (2 + length serial) ≤ length q
-        serial-room = omega (arith, kept out at head o e, kept o nameAt (formOf 0x04 name) p f, kept p keyAt (formOf 0x04 key) q g)
-
-        pub cert-in : (r : List ℕ) → r ≡ putIn q serialAt (formOf 0x02 serial) → r ≡ putIn out at (cardForm head name key serial)
-        unfolding cardForm
-        cert-in r i =
-            let x = element-length 0x04 name name-short in
-            let y = element-length 0x04 key key-short in
-            let z = element-length 0x02 serial serial-short in
-            let a : List ℕ = formOf 0x04 key ++ formOf 0x02 serial in
-            let b : List ℕ = formOf 0x04 name ++ a in
-            let la = length-append (formOf 0x04 key) (formOf 0x02 serial) in
-            let lb = length-append (formOf 0x04 name) a in
-            let k = kept out at head o e in
-            let m = kept o nameAt (formOf 0x04 name) p f in
-            let u = next-in p keyAt serialAt (formOf 0x04 key) (formOf 0x02 serial) q r g i (omega arith) (omega arith) in
-            let v = next-in o nameAt keyAt (formOf 0x04 name) a p r f u (omega arith) (omega arith) in
-            next-in out at nameAt head b o r e v refl (omega arith)
+-- the serial with its header
+module _ (out serial : List ℕ) (h : length serial ≤ 20) (room : 67 + length serial ≤ length out) where
+  pub serial-in : (o : List ℕ) → o ≡ putIn out 65 (0x02 ∷ length serial ∷ []) → (p : List ℕ) → p ≡ putIn o 67 serial
+      → p ≡ putIn out 65 (formOf 0x02 serial)
+  unfolding formOf
+  serial-in o e p f =
+      let i : formOf 0x02 serial ≡ (0x02 ∷ length serial ∷ []) ++ serial = rw (length-short (length serial) (omega arith)) in
+      next-in out 65 67 (0x02 ∷ length serial ∷ []) serial o p e f refl (omega arith) ∙ ap (putIn out 65) (sym i)
 
 -- ---- the request
 
-module _ (out head name key serial : List ℕ)
-    (few : length head + length name + length key + length serial ≤ 113)
-    (room : 16 + (length head + length name + length key + length serial) ≤ length out) where
-  abbrev size : ℕ
-  size = length head + (length name + length key) + length serial + 6
-
-  module _ (o : List ℕ) (e : o ≡ putIn out 0 (headsForm size)) where
-    pub request-in : (p : List ℕ) → p ≡ putIn o 10 (cardForm head name key serial) → p ≡ putIn out 0 (requestForm head name key serial)
-    unfolding requestForm
-    request-in p g =
-        let c = cardForm head name key serial in
-        let l = card-length head name key serial few in
-        let k = heads-length size (omega arith) in
-        let s : length c ≡ size = omega arith in
-        let f : headsForm size ++ c ≡ requestForm head name key serial = rw (← s) (heads-form c (omega arith)) in
-        next-in out 0 10 (headsForm size) c o p e g (omega arith) (omega arith) ∙ ap (putIn out 0) f
+module _ (out name key serial : List ℕ) (n : length name ≡ 20) (k : length key ≡ 20) (s : length serial ≤ 20)
+    (room : 67 + length serial ≤ length out) (o : List ℕ) (e : o ≡ putIn out 0 (frontForm nullHead 20 (57 + length serial))) where
+  module _ (p : List ℕ) (f : p ≡ putIn o 23 (name ++ formOf 0x04 key)) where
+    pub request-in : (q : List ℕ) → q ≡ putIn p 65 (formOf 0x02 serial) → q ≡ putIn out 0 (requestForm nullHead name key serial)
+    request-in q g =
+        let front : List ℕ = frontForm nullHead 20 (57 + length serial) in
+        let hashes : List ℕ = name ++ formOf 0x04 key in
+        let last : List ℕ = formOf 0x02 serial in
+        let m : 57 + length serial ≡ 6 + (length nullHead + length name + length key + length serial) = omega arith in
+        let parts : front ++ (hashes ++ last) ≡ requestForm nullHead name key serial =
+        ap₂ (λ (a b : ℕ). frontForm nullHead a b ++ (hashes ++ last)) (sym n) m ∙ form-parts nullHead name key serial (omega arith) in
+        let l : 23 ≡ length front = ap length (front-is (length serial) s) in
+        let x = element-length 0x04 key (omega arith) in
+        let y = element-length 0x02 serial (omega arith) in
+        let u = length-append name (formOf 0x04 key) in
+        let v = length-append hashes last in
+        let w = kept out 0 front o e in
+        let i = next-in o 23 65 hashes last p q f g (omega arith) (omega arith) in
+        next-in out 0 23 front (hashes ++ last) o q e i (omega arith) (omega arith) ∙ ap (putIn out 0) parts

@@ -1,16 +1,17 @@
--- Laws of the request's octets: how many they are, and that the layout's codecs read from them the CertID that is
--- asked about. Hashes have any length, and the algorithm is any.
--- card-length, form-length; with-form, with-read.
--- The definitions are in Request and RequestFormat. Assumes nothing.
+-- Laws of the request's octets: how many they are, the parts that they are made of, and that the layout's codecs read
+-- from them the CertID that is asked about. Hashes have any length, and the algorithm is any.
+-- card-length, form-length, form-parts; with-form, with-read.
+-- The definitions are in Request, Heads and RequestFormat. Assumes nothing.
 use Prim.Native.Nat.{ℕ, _+_, _^_, _≤_, _<_}
 use native.Mathlib.Omega.{arith}
-use mathlib.Core.Path.{_≡_, ap}
+use mathlib.Core.Path.{_≡_, sym, ap, _∙_}
 use mathlib.Core.Bool.{true}
-use mathlib.Core.List.{List}
+use mathlib.Core.List.{List, _++_, append-assoc}
 use lib.ListN.{length, length-append}
 use Rattle.octets.specs.Octets.{Octets}
-use Rattle.element.specs.Form.{formOf}
+use Rattle.element.specs.Form.{headForm, formOf}
 use Rattle.element.specs.FormLaws as forms
+use Rattle.element.specs.FormLaws.{form-before}
 use Rattle.content.specs.Serial.{serialOk}
 use Rattle.content.specs.SerialLaws.{serial-sound, serial-most}
 use Rattle.codec.specs.Codec.{read}
@@ -22,7 +23,7 @@ use Rattle.layout.specs.EntryFormat.{algorithmIdentifier, certBody, certId}
 use Rattle.matching.specs.CertForm.{cardForm}
 use Rattle.request.specs.Request.{requestForm}
 use Rattle.request.specs.RequestFormat.{single, requestList, tbsRequest, ocspRequest, certWith}
-use Rattle.request.specs.Heads.{element-length}
+use Rattle.request.specs.Heads.{element-length, headsForm, frontForm, heads-form}
 
 module _ (head name key serial : List ℕ) (s : length head + length name + length key + length serial ≤ 113) where
   -- the CertID's content: three headers more than its fields
@@ -46,6 +47,24 @@ module _ (head name key serial : List ℕ) (s : length head + length name + leng
       let e₄ = element-length 0x30 (formOf 0x30 (formOf 0x30 (formOf 0x30 b))) (omega arith) in
       let e₅ = element-length 0x30 (formOf 0x30 (formOf 0x30 (formOf 0x30 (formOf 0x30 b)))) (omega arith) in
       omega arith
+
+  -- the request: what stands before the name hash, both hashes, the serial
+  pub form-parts : frontForm head (length name) (6 + (length head + length name + length key + length serial))
+      ++ ((name ++ formOf 0x04 key) ++ formOf 0x02 serial)
+      ≡ requestForm head name key serial
+  unfolding requestForm cardForm frontForm
+  form-parts =
+      let c = cardForm head name key serial in
+      let n : ℕ = 6 + (length head + length name + length key + length serial) in
+      let h : List ℕ = headForm 0x04 (length name) in
+      let k : List ℕ = formOf 0x04 key in
+      let r : List ℕ = formOf 0x02 serial in
+      let l : length c ≡ n = card-length in
+      append-assoc (headsForm n) (head ++ h) ((name ++ k) ++ r)
+      ∙ ap (λ (z : List ℕ). headsForm n ++ z) (append-assoc head h ((name ++ k) ++ r))
+      ∙ ap (λ (z : List ℕ). headsForm n ++ (head ++ (h ++ z))) (append-assoc name k r)
+      ∙ ap (λ (z : List ℕ). headsForm n ++ (head ++ z)) (sym (form-before 0x04 name (k ++ r)))
+      ∙ rw (← l) (heads-form c (omega arith))
 
 -- an element has at most ten octets more than its content
 more : (t m : ℕ) (c : List ℕ) → length c ≤ m → m ≤ 4096 → length (formOf t c) ≤ m + 10

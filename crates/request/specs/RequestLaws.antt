@@ -1,6 +1,6 @@
 -- Laws of the request for a card: how many octets it has; that the layout's codecs read from it the CertID that is
 -- asked about, which is for the card; and that two cards have two requests.
--- Typed; request-length, request-range; request-codec, request-read, request-for, request-injective.
+-- request-length, request-range; request-codec, request-read, request-for, request-injective.
 -- The definitions are in Request and RequestFormat; the same of any hashes and any algorithm is in FormLaws.
 -- Assumes nothing.
 use Prim.Native.Nat.{_+_, _≤_}
@@ -32,18 +32,9 @@ use Rattle.matching.specs.Matched.{match-exactly}
 use Rattle.matching.specs.MatchLaws.{hash-twenty, match-unique}
 use Rattle.matching.specs.Known.{nullOf, knows-sha1}
 use Rattle.matching.specs.CertForm.{nullHead}
-use Rattle.request.specs.Request.{requestOf}
+use Rattle.request.specs.Request.{requestOf, Typed}
 use Rattle.request.specs.RequestFormat.{ocspRequest, certOf}
 use Rattle.request.specs.FormLaws.{form-length, with-form, with-read}
-
--- what is known of a card by its type
-pub record Typed (card : Card) : Type 0 where
-  pub name : Octets (card .name)
-  pub nameSize : length (card .name) ≡ 20
-  pub key : Octets (card .key)
-  pub keySize : length (card .key) ≡ 20
-  pub serial : Octets (card .serial)
-  pub serialSize : length (card .serial) ≡ 20
 
 -- SHA-1 with 05 00 is the algorithm identifier of a request
 null-head : nullHead ≡ algorithmIdentifier .enc (nullOf sha1)

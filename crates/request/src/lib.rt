@@ -2,8 +2,7 @@
 //
 // The public function has no requirement: a card that does not fit and a buffer that is too short get
 // a refusal, and the buffer stays as it was.
-mod certs; // the CertID's content
-mod heads; // the headers of the five sequences
+mod parts; // the request's parts, each at its place
 mod writers; // the request
 
 pub use writers::write_request;

@@ -1,8 +1,8 @@
 -- Laws of what a response is judged to be: what is judged basic reads as a basic response, and what reads
 -- as one is judged so.
--- partsIn; Reads, judged-basic, basic-judged.
+-- Reads, judged-basic, basic-judged.
 -- The definitions are in Parts. Assumes nothing.
-use Prim.Native.Nat.{ℕ, _-_, _≤_}
+use Prim.Native.Nat.{ℕ, _≤_}
 use mathlib.Core.Path.{_≡_, refl}
 use mathlib.Core.Bool.{Bool, true, false, cond}
 use mathlib.Core.List.{List}
@@ -10,16 +10,11 @@ use lib.Dec.{ltb}
 use lib.ListN.{length}
 use borrow.Author.Tests.{ltb-false, le-ltb}
 use Rattle.layout.specs.Reading.{Basic, failed, basic}
-use Rattle.layout.specs.Format.{basicBody}
 use Rattle.layout.specs.Read.{Outcome, reads, otherType, unfit, reading}
 use Rattle.spots.specs.ExpectLaws.{never}
-use Rattle.response.specs.Parts.{partsFrom, judgedAs, judgedOf}
+use Rattle.response.specs.Parts.{judgedAs, judgedOf, partsIn}
 use Rattle.response.specs.declared.Parts.{Parts}
 use Rattle.response.specs.declared.Judged.the-variants as judged
-
--- where the parts of a response are that reads as this
-abbrev pub partsIn : List ℕ → Basic → Parts
-partsIn s b = partsFrom (length s - length (basicBody .enc b)) b
 
 -- what is judged basic reads as a basic response, and its parts are where that has them
 pub record Reads (s : List ℕ) (t : Parts) : Type 0 where

@@ -1,7 +1,7 @@
 -- Where the parts of a basic response are: each stands after the forms of the parts before it. The
 -- basic response's own content is the last octets of the response.
 -- span; responsesSize, entriesSize, responsesAt, responderSpan, entriesSpan, extensionsSpan; signedSize,
--- signedContentAt, algorithmSize, signatureEnd, partsFrom; judgedAs, judgedOf. That the octets there are
+-- signedContentAt, algorithmSize, signatureEnd, partsFrom, partsIn; judgedAs, judgedOf. That the octets there are
 -- the parts' forms is in PartsLaws.
 -- Assumes nothing.
 use Prim.Native.Nat.{ℕ, _+_, _-_}
@@ -69,6 +69,10 @@ partsFrom at b = record {
   signature = span (signatureEnd at b - length (b .signature)) (length (b .signature));
   certificates = span (signatureEnd at b) (length (optionEnc (certificates .enc) (b .certificates)));
 }
+
+-- where the parts of a response are that reads as this
+abbrev pub partsIn : List ℕ → Basic → Parts
+partsIn s b = partsFrom (length s - length (basicBody .enc b)) b
 
 -- what a response of this size is
 unfoldable pub judgedAs : ℕ → Outcome → Judged

@@ -1,6 +1,6 @@
 -- When a response is accepted: document 01's conditions for no refusal, each in plain words beside its number in the
 -- table of refusals. The check that is run is in Ruling; that it accepts exactly these is in RulingLaws.
--- InRange; Signs, KnownInResponse, KnownInEntry, Understood; Accepted; NoRefusal, HasTimes, IsRefusal.
+-- InRange; Signs, KnownInResponse, KnownInEntry, Understood, NotUnderstood; Accepted; NoRefusal, HasTimes, IsRefusal.
 -- Assumes nothing.
 use Prim.Native.Nat.{ℕ, _+_, _≤_}
 use mathlib.Core.Logic.{_⊎_}
@@ -49,6 +49,10 @@ KnownInEntry o = o ≡ ocspOid 6
 abbrev pub Understood : (List ℕ → Type 0) → Option (List Extension) → Type 0
 Understood Known none = Unit {0}
 Understood Known (some l) = (x : Extension) → List·Memᴰ x l → x .critical ≡ true → Known (x .oid)
+
+-- a critical extension is not understood
+abbrev pub NotUnderstood : (List ℕ → Type 0) → Option (List Extension) → Type 0
+NotUnderstood Known o = (l : List Extension) × (x : Extension) × (o ≡ some l) × List·Memᴰ x l × (x .critical ≡ true) × (Known (x .oid) → ⊥)
 
 -- a response s is accepted for a question and the signer's Name, from the entry e of the basic response b, whose
 -- nextUpdate is next

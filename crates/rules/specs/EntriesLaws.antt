@@ -1,6 +1,6 @@
 -- The entries for a card, in plain words: an entry is for the card by its three parts and its algorithm, and the search
 -- finds one exactly when that one stands in the list and no other is for the card.
--- for-exactly, only-exactly. The definitions are in OneCard, Order and crate matching.
+-- for-exactly, none-exactly, only-exactly. The definitions are in OneCard, Order and crate matching.
 -- Assumes nothing.
 use Prim.Native.Nat.{ℕ}
 use native.Mathlib.Omega.{arith}
@@ -117,6 +117,10 @@ module _ (card : Card) where
       y
       (λ f. absurd (h y (List·Memᴰ·head refl) f))
       (λ e. for-left y l e ∙ none-back l (λ x m. h x (List·Memᴰ·tail m)))
+
+  -- no entry is for the card exactly when each is not
+  pub none-exactly : (l : List Entry) → entriesFor card l ≡ [] ↔ ((x : Entry) → List·Memᴰ x l → ForCard card (x .cert) → ⊥)
+  none-exactly l = (none-found l, none-back l)
 
   -- the only entry for the card, with those before and after it
   only-here : (y : Entry) (l : List Entry) (e : Entry) → ForCard card (y .cert) → y ∷ entriesFor card l ≡ e ∷ [] → OnlyEntry card (y ∷ l) e

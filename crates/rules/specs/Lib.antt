@@ -14,4 +14,6 @@ pub mod RowLaws
 pub mod OneCard
 pub mod EntriesLaws
 pub mod OneCardLaws
+pub mod PlainLaws
+pub mod EarlyLaws
 pub mod Examples

@@ -12,7 +12,6 @@ use Rattle.element.specs.Header.{headerOf}
 use Rattle.element.specs.HeaderLaws.{header-inside}
 use Rattle.element.specs.declared.Header.{Header}
 use Rattle.element.specs.declared.Header.the-variants as header
-use Rattle.layout.specs.Format.{singleResponse}
 use Rattle.answer.specs.Verdict.{refused}
 use Rattle.answer.specs.declared.Card.{Card}
 use Rattle.answer.specs.declared.Answer.{Answer}
@@ -20,7 +19,7 @@ use Rattle.search.specs.Search.{isHere, noted, isTwo, onHeader, searchFrom, sea
 use Rattle.search.specs.declared.Found.{Found}
 use Rattle.search.specs.declared.Found.the-variants.{None, One, Two}
 use Rattle.rules.specs.declared.Question.{Question}
-use Rattle.entry_ruling.specs.EntryRuled.{headRuled}
+use Rattle.ruling.specs.EntryRuled.{seenRuled}
 use Rattle.ruling.specs.CardRuled.{foundRuled, cardRuled}
 
 -- what is found lies inside
@@ -83,6 +82,6 @@ module _ (q : Question) (s : List ℕ) (w : Found) (x : w ≡ searchOf (q .card)
     pub card-sum : length s < 2 ^ 64 → Fits w64 (b + n)
     card-sum z = record { fits = omega (arith, card-end) }
 
-    pub card-one : (a : Answer) → a ≡ headRuled q (singleResponse .dec (take (b + n - b) (drop b s))) → a ≡ cardRuled q s
+    pub card-one : (a : Answer) → a ≡ seenRuled q (take (b + n - b) (drop b s)) → a ≡ cardRuled q s
     unfolding cardRuled foundRuled
     card-one a h = let k : b + n - b ≡ n = omega arith in rw (sym x ∙ e) (rw k at h)

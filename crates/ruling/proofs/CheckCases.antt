@@ -1,5 +1,5 @@
 -- The cases of the check: the question out of range, the response refused as a whole, one card.
--- rule-refused, rule-end, rule-sum, rule-clear; check-range, check-ruled.
+-- rule-refused, rule-end, rule-sum, rule-clear; check-range, check-ruled, check-error.
 -- Assumes nothing.
 use Prim.Native.Nat.{ℕ, _+_, _-_, _^_, _≤_, _<_}
 use native.Mathlib.Omega.{arith}
@@ -13,6 +13,8 @@ use mir.Val.{Fits}
 use Rattle.octets.specs.OctetsLaws.{octets-from}
 use Rattle.answer.specs.Verdict.{refused}
 use Rattle.answer.specs.declared.Answer.{Answer}
+use Rattle.response.specs.Parts.{judgedOf}
+use Rattle.response.specs.Refusals.{refusalOf}
 use Rattle.rules.specs.declared.Question.{Question}
 use Rattle.rules.specs.Question.{inRange}
 use Rattle.rules.specs.Ruling.{answerOf}
@@ -22,7 +24,7 @@ use Rattle.opened.specs.declared.Opened.the-variants.{Refused, Clear}
 use Rattle.opened.specs.Opened.{openedOf}
 use Rattle.opened.specs.OpenedLaws.{opened-inside}
 use Rattle.ruling.specs.CardRuled.{cardRuled, openedRuled}
-use Rattle.ruling.specs.CheckLaws.{CardKnown, check-by-parts}
+use Rattle.ruling.specs.CheckLaws.{CardKnown, check-by-parts, error-answer}
 
 -- ── judged as a whole, then for the card ──
 module _ (q : Question) (name s : List ℕ) (octet : (i : ℕ) → Fits w8 (getD s i 0)) (w : Opened) (y : w ≡ openedOf q name s) where
@@ -50,3 +52,9 @@ module _ (q : Question) (name s : List ℕ) (r : Bool) (x : r ≡ inRange q name
 
   pub check-ruled : not r ≡ false → ((i : ℕ) → Fits w8 (getD s i 0)) → CardKnown (q .card) → (a : Answer) → a ≡ openedRuled q s (openedOf q name s) → a ≡ answerOf q name s
   check-ruled k octet known a h = h ∙ sym (check-by-parts q name s (sym x ∙ not-false r k) (octets-from s (λ i lt. octet i .fits)) known)
+
+  -- an error response
+  pub check-error : not r ≡ false → ((i : ℕ) → Fits w8 (getD s i 0)) → CardKnown (q .card) → (n : ℕ) → n ≡ refusalOf (judgedOf s) .status → (n ≡ 0 → ⊥)
+      → (a : Answer) → a ≡ refused 4 n → a ≡ answerOf q name s
+  check-error k octet known n e z a h =
+      h ∙ sym (error-answer q name s (sym x ∙ not-false r k) (octets-from s (λ i lt. octet i .fits)) known n e z)

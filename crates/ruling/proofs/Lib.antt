@@ -1,2 +1,3 @@
+pub mod EntryCases
 pub mod CardCases
 pub mod CheckCases

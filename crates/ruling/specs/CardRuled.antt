@@ -4,7 +4,6 @@
 use Prim.Native.Nat.{ℕ}
 use mathlib.Core.List.{List}
 use lib.ListN.{take, drop}
-use Rattle.layout.specs.Format.{singleResponse}
 use Rattle.answer.specs.Verdict.{refused}
 use Rattle.answer.specs.declared.Answer.{Answer}
 use Rattle.search.specs.Search.{searchOf}
@@ -13,13 +12,13 @@ use Rattle.search.specs.declared.Found.the-variants.{None, One, Two}
 use Rattle.rules.specs.declared.Question.{Question}
 use Rattle.opened.specs.declared.Opened.{Opened}
 use Rattle.opened.specs.declared.Opened.the-variants.{Refused, Clear}
-use Rattle.entry_ruling.specs.EntryRuled.{headRuled}
+use Rattle.ruling.specs.EntryRuled.{seenRuled}
 
 -- no entry is for the card, one is, or two are
 unfoldable pub foundRuled : Question → List ℕ → Found → Answer
 foundRuled q s (None k) = refused 10 0
 foundRuled q s (Two i j) = refused 11 0
-foundRuled q s (One i b n) = headRuled q (singleResponse .dec (take n (drop b s)))
+foundRuled q s (One i b n) = seenRuled q (take n (drop b s))
 
 unfoldable pub cardRuled : Question → List ℕ → Answer
 cardRuled q s = foundRuled q s (searchOf (q .card) s)

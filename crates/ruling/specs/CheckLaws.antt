@@ -1,13 +1,13 @@
 -- The check cut in two says what the table says: the response judged as a whole (2 to 9), then one card
 -- (10 to 16).
--- CardKnown, card-known; check-by-parts. The definitions are in CardRuled, in Opened of crate opened, in EntryRuled of
--- crate entry_ruling and in Ruling of crate rules; a question out of range is out-of-range in RefusalLaws of crate rules.
+-- CardKnown, card-known; check-by-parts, error-answer. The definitions are in CardRuled and EntryRuled, in Opened of crate
+-- opened and in Ruling of crate rules; a question out of range is out-of-range in RefusalLaws of crate rules.
 -- Assumes nothing.
 use Prim.Native.Nat.{ℕ, _-_, _^_, _≤_, _<_}
 use native.Mathlib.Omega.{arith}
 use mathlib.Core.Path.{_≡_, refl, sym, ap, _∙_}
 use mathlib.Core.Bool.{Bool, true, false, cond, _&&_}
-use mathlib.Core.List.{List, [], _∷_, append-nil}
+use mathlib.Core.List.{List, [], _∷_}
 use lib.Dec.{eqb, ltb}
 use lib.ListN.{length, getD, drop, length-drop}
 use lib.Seq.{length-take-le}
@@ -16,7 +16,7 @@ use mir.Val.{Fits}
 use Rattle.octets.specs.Octets.{Octets}
 use Rattle.octets.specs.OctetsLaws.{octets-from}
 use Rattle.content.specs.Serial.{serialOk}
-use Rattle.codec.specs.Codec.{read, got}
+use Rattle.codec.specs.Codec.{read}
 use Rattle.codec.specs.Many.{forms, All, many}
 use Rattle.layout.specs.Reading.{Entry, Basic, failed, basic}
 use Rattle.layout.specs.LimitsLaws.{entry-limits}
@@ -28,7 +28,10 @@ use Rattle.layout.specs.Theorem.{sound}
 use Rattle.response.specs.Parts.{partsFrom, judgedAs, judgedOf}
 use Rattle.response.specs.PartsLaws.{entries-stand}
 use Rattle.response.specs.declared.Parts.{Parts}
+use Rattle.response.specs.Refusals.{refusalOf}
+use Rattle.response.specs.declared.Judged.{Judged}
 use Rattle.response.specs.declared.Judged.the-variants as judged
+use Rattle.answer.specs.Verdict.{refused}
 use Rattle.answer.specs.Card.{serialIn}
 use Rattle.answer.specs.CardLaws.{field-exactly}
 use Rattle.answer.specs.declared.Card.{Card}
@@ -48,8 +51,8 @@ use Rattle.rules.specs.AcceptedLaws.{range-exactly}
 use Rattle.rules.specs.RowLaws.{row-2, row-3, row-4, row-5, row-6, row-7, row-8, row-9, row-10, row-11}
 use Rattle.opened.specs.Opened.{numberOpened, partsOpened, openedBy, openedOf}
 use Rattle.opened.specs.OpenedLaws.{part-short, refusal-is}
-use Rattle.entry_ruling.specs.EntryRuled.{headRuled}
-use Rattle.entry_ruling.specs.EntryRuledLaws.{head-got, entry-answer}
+use Rattle.ruling.specs.EntryRuled.{seenRuled}
+use Rattle.ruling.specs.EntryRuledLaws.{seen-ruled, entry-answer}
 use Rattle.ruling.specs.CardRuled.{foundRuled, cardRuled, openedRuled}
 
 -- ── the entries for the card ──
@@ -102,8 +105,7 @@ module _ (q : Question) (name s : List ℕ) (range : inRange q name ≡ true) (s
         let (e, f, g, le) = found-one (q .card) (b .signed .entries) i at n h in
         let a : All (singleResponse .ok) (e ∷ []) = rw f at (all-for (q .card) (singleResponse .ok) (b .signed .entries) ok) in
         let z : length (singleResponse .enc e) < 2 ^ 64 = omega (arith, ap length g, length-take-le n (drop at octets) (simp length-drop (omega arith))) in
-        let d : singleResponse .dec (singleResponse .enc e) ≡ got e (length (singleResponse .enc e)) = rw append-nil at (singleResponse .complete e [] (a .0) z) in
-        entry-answer q name s range size b r valid signer marks clear e (sym (entries-for (q .card) (b .signed .entries)) ∙ f) ∙ sym (ap (λ (x : List ℕ). headRuled q (singleResponse .dec x)) g ∙ head-got q _ e _ d)
+        entry-answer q name s range size b r valid signer marks clear e (sym (entries-for (q .card) (b .signed .entries)) ∙ f) ∙ sym (ap (seenRuled q) g ∙ seen-ruled q e (a .0) z)
 
     card-answer : answerOf q name s ≡ cardRuled q octets
     unfolding cardRuled
@@ -155,3 +157,15 @@ module _ (q : Question) (name s : List ℕ) (range : inRange q name ≡ true) (o
       go false h otherType r = row-5 q name s range h r
       go false h (reads (failed n)) r = row-4 q name s range h n r
       go false h (reads (basic b)) r = basic-answer h b r
+
+  -- an error response, with its status
+  pub error-answer : (n : ℕ) → n ≡ refusalOf (judgedOf s) .status → (n ≡ 0 → ⊥) → answerOf q name s ≡ refused 4 n
+  unfolding openedOf openedBy openedRuled refusalOf
+  error-answer n i k = check-by-parts ∙ go (judgedOf s) i
+    where
+      go : (j : Judged) → n ≡ refusalOf j .status → openedRuled q s (openedBy q name s j) ≡ refused 4 n
+      go (judged.Failed c) i = rw i
+      go (judged.Basic p) i = absurd (k i)
+      go judged.TooLong i = absurd (k i)
+      go (judged.Unfit p) i = absurd (k i)
+      go judged.OtherType i = absurd (k i)

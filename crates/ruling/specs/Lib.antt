@@ -1,2 +1,4 @@
+pub mod EntryRuled
+pub mod EntryRuledLaws
 pub mod CardRuled
 pub mod CheckLaws

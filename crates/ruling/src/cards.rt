@@ -1,4 +1,5 @@
 // One card (refusals 10 to 16), and the check.
+use crate::entries;
 use answer::Answer;
 use opened::Opened;
 use rules::Question;
@@ -9,7 +10,7 @@ ghost use Rattle.opened.specs.Opened.{openedOf};
 ghost use Rattle.ruling.specs.CardRuled.{cardRuled, openedRuled};
 
 // What a response that is not refused says of the card, by the octets of its entries.
-pub fn rule_card(q: Question, part: &[u8]) -> Answer
+fn rule_card(q: Question, part: &[u8]) -> Answer
     ensures { λ r. ⌜ r ≡ cardRuled q (now (part .entry)) ⌝ }
 {
     let card = q.card;
@@ -26,13 +27,13 @@ pub fn rule_card(q: Question, part: &[u8]) -> Answer
             len,
         } => {
             let end = start + len;
-            entry_ruling::rule_entry(q, &part[start..end])
+            entries::rule_entry(q, &part[start..end])
         }
     }
 }
 
 // What a response says for a question whose ranges are kept: judged as a whole, then for the card.
-pub fn rule(q: Question, name: &[u8], s: &[u8]) -> Answer
+fn rule(q: Question, name: &[u8], s: &[u8]) -> Answer
     ensures { λ r. ⌜ r ≡ openedRuled q (now (s .entry)) (openedOf q (now (name .entry)) (now (s .entry))) ⌝ }
 {
     let opened = opened::open(q, name, s);
@@ -46,12 +47,16 @@ pub fn rule(q: Question, name: &[u8], s: &[u8]) -> Answer
 }
 
 // What a response says for a question: the first refusal that applies, else what the only entry for
-// the card says.
+// the card says. An error response is told before anything else of it is read.
 pub fn check(q: Question, name: &[u8], s: &[u8]) -> Answer
     ensures { λ r. ⌜ r ≡ answerOf q (now (name .entry)) (now (s .entry)) ⌝ }
 {
     if !ranges::question_fits(q, name) {
         return answer::refuse(1, 0);
+    }
+    let status = errors::error_status(s);
+    if status != 0 {
+        return answer::refuse(4, status);
     }
     rule(q, name, s)
 }

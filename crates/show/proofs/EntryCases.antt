@@ -16,9 +16,9 @@ use Rattle.element.specs.declared.Header.the-variants as header
 use Rattle.codec.specs.Many.{forms}
 use Rattle.layout.specs.Format.{singleResponse}
 use Rattle.spots.specs.ExpectLaws.{never}
-use Rattle.response.specs.Parts.{partsFrom, judgedOf}
+use Rattle.response.specs.Parts.{partsFrom, judgedOf, partsIn}
 use Rattle.response.specs.PartsLaws.{entries-stand}
-use Rattle.response.specs.JudgedLaws.{Reads, judged-basic, partsIn}
+use Rattle.response.specs.JudgedLaws.{Reads, judged-basic}
 use Rattle.response.specs.Refusals.{refusalOf}
 use Rattle.show.specs.Shown.{refused, entryOf}
 use Rattle.show.specs.Steps.{stepSize, stepsSize, spotAfter}

@@ -16,11 +16,10 @@ use Rattle.codec.specs.Many.{forms}
 use Rattle.layout.specs.Reading as reading
 use Rattle.layout.specs.Format.{singleResponse}
 use Rattle.layout.specs.Read.{Outcome, reads, otherType, unfit, reading}
-use Rattle.response.specs.Parts.{span, judgedAs, judgedOf}
+use Rattle.response.specs.Parts.{span, judgedAs, judgedOf, partsIn}
 use Rattle.response.specs.Stands.{Stands, part-stands}
 use Rattle.response.specs.PartsLaws.{entries-stand}
 use Rattle.show.specs.Shown.{refused, entryIn, entryAs, entryOf}
-use Rattle.response.specs.JudgedLaws.{partsIn}
 use Rattle.show.specs.StepsLaws.{forms-cut}
 use Rattle.response.specs.declared.Parts.{Parts}
 use Rattle.response.specs.declared.Judged.{Judged}

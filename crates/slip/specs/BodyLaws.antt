@@ -19,8 +19,8 @@ use Rattle.fields.specs.Field.{cardIn}
 use Rattle.slip.specs.Numbers.{total, numbersForm, numbersIn}
 use Rattle.slip.specs.NumbersLaws.{Fitting, fitting-count, numbers-length, numbers-read, numbers-written}
 use Rattle.slip.specs.Table.{Row, cardSize, bodySize}
-use Rattle.slip.specs.Slip.{cardOctets, bodyOf, verdictIn, cardUnder, parsedAs}
-use Rattle.slip.specs.CardOctetsLaws.{Sized, card-length, card-read, card-written}
+use Rattle.slip.specs.Slip.{cardOctets, bodyOf, verdictIn, cardUnder, parsedAs, Sized}
+use Rattle.slip.specs.CardOctetsLaws.{card-length, card-read, card-written}
 
 -- an answer by its two parts
 pub answer-same : {v w : Verdict} {c d : Card} → v ≡ w → c ≡ d → _≡_ {A = Answer} (record { verdict = v; card = c }) (record { verdict = w; card = d })

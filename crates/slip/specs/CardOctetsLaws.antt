@@ -1,5 +1,5 @@
 -- Laws of a card's octets: writing and reading give back each other.
--- Sized; card-octets, card-length, card-read, card-written.
+-- card-octets, card-length, card-read, card-written.
 -- The definitions are in Slip, and in Field of crate fields. A hash has n octets. Assumes nothing.
 use Prim.Native.Nat.{ℕ, _+_, _≤_, _<_}
 use native.Mathlib.Omega.{arith}
@@ -14,13 +14,7 @@ use Rattle.octets.specs.NumberLaws.{octets-length, octets-value, value-octets}
 use Rattle.answer.specs.declared.Card.{Card}
 use Rattle.fields.specs.Field.{cardIn}
 use Rattle.fields.specs.FieldLaws.{card-there}
-use Rattle.slip.specs.Slip.{cardOctets}
-
--- a card whose hashes have n octets, and its serial's field twenty
-pub record Sized (n : ℕ) (card : Card) : Type 0 where
-  pub name : length (card .name) ≡ n
-  pub key : length (card .key) ≡ n
-  pub serial : length (card .serial) ≡ 20
+use Rattle.slip.specs.Slip.{cardOctets, Sized}
 
 module _ (card : Card) (t : List ℕ) where
   -- the fields one after the other, and what follows

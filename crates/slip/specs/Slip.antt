@@ -1,9 +1,11 @@
 -- The slip (document 01, "Request and slip"): one octet of kind, then a body whose length the kind fixes.
--- cardOctets, bodyOf, slipOf; cardFits, slipOk, slipRefusal; verdictIn, cardUnder, parsedAs, parsed, readOf.
+-- cardOctets, bodyOf, slipOf; cardFits, slipOk, slipRefusal; verdictIn, cardUnder, parsedAs, parsed, readOf;
+-- Sized, Hashed.
 -- The rows are in Table, the rules of each verdict in Rules, the laws in SlipLaws. A hash has n octets; the code uses n at 20.
 -- Assumes nothing.
 use Prim.Native.Nat.{ℕ}
-use mathlib.Core.Bool.{Bool, false, cond}
+use mathlib.Core.Path.{_≡_}
+use mathlib.Core.Bool.{Bool, true, false, cond}
 use mathlib.Core.List.{List, [], _∷_, _++_, flatten}
 use lib.Dec.{eqb}
 use lib.ListN.{length, drop}
@@ -68,3 +70,15 @@ parsed n (kind ∷ s) = parsedAs n (rowOf kind) s
 -- the answer of a slip; 17 where it breaks the slip rules
 unfoldable pub readOf : ℕ → List ℕ → Answer
 readOf n s = cond (slipOk (parsed n s)) (parsed n s) (refused 17 0)
+
+-- ---- how long the fields of a card are
+
+-- a card whose hashes have n octets, and its serial's field twenty
+pub record Sized (n : ℕ) (card : Card) : Type 0 where
+  pub name : length (card .name) ≡ n
+  pub key : length (card .key) ≡ n
+  pub serial : length (card .serial) ≡ 20
+
+-- where an answer's slip has a card, its hashes have n octets
+abbrev pub Hashed : ℕ → Answer → Type 0
+Hashed n a = rowOf (kindOf (a .verdict)) .carded ≡ true → Sized n (a .card)

@@ -1,5 +1,5 @@
 -- Laws of slips: a slip that was written is read as its answer, and one that is read is written as the same octets.
--- Hashed, slip-length; slip-parts, read-written; written-read, read-exactly; slip-first, read-out, write-back.
+-- slip-length; slip-parts, read-written; written-read, read-exactly; slip-first, read-out, write-back.
 -- The definitions are in Slip. A hash has n octets. Assumes nothing.
 use Prim.Native.Nat.{ℕ, suc, _≤_, _<_}
 use native.Mathlib.Omega.{arith}
@@ -25,13 +25,8 @@ use Rattle.slip.specs.Rules.{verdictOk}
 use Rattle.slip.specs.RulesLaws.{both, verdict-fits, verdict-back, refused-broken}
 use Rattle.slip.specs.Table.{Row, noRow, rowOf, cardSize, bodySize, sizeOf}
 use Rattle.slip.specs.TableLaws.{Faithful, row-faithful, verdict-count}
-use Rattle.slip.specs.Slip.{bodyOf, slipOf, cardFits, slipOk, slipRefusal, verdictIn, cardUnder, parsedAs, parsed, readOf}
-use Rattle.slip.specs.CardOctetsLaws.{Sized}
+use Rattle.slip.specs.Slip.{bodyOf, slipOf, cardFits, slipOk, slipRefusal, verdictIn, cardUnder, parsedAs, parsed, readOf, Hashed}
 use Rattle.slip.specs.BodyLaws.{answer-same, body-length, body-read, body-written}
-
--- where an answer's slip has a card, its hashes have n octets
-abbrev pub Hashed : ℕ → Answer → Type 0
-Hashed n a = rowOf (kindOf (a .verdict)) .carded ≡ true → Sized n (a .card)
 
 -- a slip has as many octets as its kind says
 pub slip-length : (n : ℕ) (a : Answer) → Hashed n a → length (slipOf a) ≡ sizeOf n (kindOf (a .verdict))

@@ -1,1 +1,4 @@
+pub mod PutCases
+pub mod VerdictCases
+pub mod WriteCases
 pub mod RuleCases

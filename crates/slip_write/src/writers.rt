@@ -1,4 +1,5 @@
 // An answer as a slip, by the slip rules or with none asked.
+use crate::puts;
 use answer::Answer;
 use fields::Output;
 ghost use mathlib.Core.Path.{_≡_};
@@ -23,14 +24,14 @@ pub fn write_slip(answer: Answer, out: &mut [u8]) -> Output
     ensures { λ _. ⌜ now (out .exit) ≡ outputIn (slipRefusal answer) (now (out .entry)) (slipOf answer) ⌝ }
 {
     let refusal = refusal_of(answer);
-    slip_put::write_with(answer, refusal, out)
+    puts::write_with(answer, refusal, out)
 }
 
-// Writes the octets of an answer, the slip rules apart: for a caller that has proved that they are kept,
-// as of every answer of the check.
-pub fn write_kept(answer: Answer, out: &mut [u8]) -> Output
+// Writes the octets of an answer and does not ask the slip rules: what is written of an answer that
+// breaks them is no slip. For a caller that has proved that they are kept, as of every answer of the check.
+pub fn write_unjudged(answer: Answer, out: &mut [u8]) -> Output
     ensures { λ r. ⌜ r ≡ outputOf 0 (length (now (out .entry))) (length (slipOf answer)) ⌝ }
     ensures { λ _. ⌜ now (out .exit) ≡ outputIn 0 (now (out .entry)) (slipOf answer) ⌝ }
 {
-    slip_put::write_with(answer, 0, out)
+    puts::write_with(answer, 0, out)
 }

@@ -2,6 +2,7 @@
 use crate::say;
 use response::Judged;
 use show::Entry;
+use walked::Stepped;
 
 // Why a response is refused.
 fn say_why(s: &[u8]) {
@@ -33,14 +34,32 @@ pub(crate) fn say_signature(s: &[u8]) {
     }
 }
 
-// One step of the walk from a place: the first eight octets of the body, then the response.
+// A walk over the entries of a response, from its start: so many steps, and then the step that is told.
+// There are at most 64 entries, and the end stays, so after 64 steps every step is the same.
+fn step_after(response: &[u8], count: usize) -> Stepped {
+    let mut left = count;
+    if 64 < count {
+        left = 64;
+    }
+    let mut place = 0;
+    while 0 < left {
+        let step = walk::step_from(response, place);
+        place = step.place;
+        left -= 1;
+    }
+    walk::step_from(response, place)
+}
+
+// One step of the walk from a place: the first eight octets of the body, then the response. The walk goes
+// there from its start, and the size that is said is that of the part which was handed out.
 pub(crate) fn say_step(body: &[u8]) {
     let number = octets::number_at(body, 0, 8);
     if let octets::Number::Is(place) = number {
         if 8 <= body.len() {
-            let entry = show::entry_at(&body[8..], place as usize);
-            match entry {
-                Entry::At { start, len } => say::say_part(start, len),
+            let step = step_after(&body[8..], place as usize);
+            let says = step.says;
+            match says {
+                Entry::At { start, .. } => say::say_part(start, step.size),
                 Entry::End => say::say(b"end\n"),
                 Entry::Refused { number, status } => say::say_refusal(number, status),
             }

@@ -1,34 +1,42 @@
 // Critical extensions that are not understood (refusals 9 and 12).
 use critical::Strange;
 ghost use mathlib.Core.Path.{_≡_};
+ghost use mathlib.Core.List.{[], _∷_};
 ghost use Rattle.critical.specs.Strange.{strangeOf};
 ghost use Rattle.understood.specs.StrangePlace.{isPlace, responseKnown, entryKnown};
 
-// Whether there is a place.
-fn is_there(found: Strange) -> bool
-    ensures { λ r. ⌜ r ≡ isPlace found ⌝ }
+// Whether a critical extension has another OID than these two.
+fn strange_among(part: &[u8], a: &[u8], b: &[u8]) -> bool
+    ensures { λ r. ⌜ r ≡ isPlace (strangeOf (now (a .entry) ∷ now (b .entry) ∷ []) (now (part .entry))) ⌝ }
 {
+    let found = critical::strange_place(part, a, b);
     match found {
         Strange::None => false,
         Strange::At(_) => true,
     }
 }
 
-// Whether a critical extension of the response is not understood: nonce and extended revoke are.
+// Whether a critical extension of the response is not understood: nonce and extended revoke are. Where
+// there are no extensions at all, nothing more is looked at.
 pub fn strange_in_response(part: &[u8]) -> bool
     ensures { λ r. ⌜ r ≡ isPlace (strangeOf responseKnown (now (part .entry))) ⌝ }
 {
+    if part.len() == 0 {
+        return false;
+    }
     let nonce: [u8; 9] = [0x2b, 0x06, 0x01, 0x05, 0x05, 0x07, 0x30, 0x01, 0x02];
     let revoke: [u8; 9] = [0x2b, 0x06, 0x01, 0x05, 0x05, 0x07, 0x30, 0x01, 0x09];
-    let found = critical::strange_place(part, &nonce, &revoke);
-    is_there(found)
+    strange_among(part, &nonce, &revoke)
 }
 
-// Whether a critical extension of an entry is not understood: archive cutoff is.
+// Whether a critical extension of an entry is not understood: archive cutoff is; where
+// there are none at all, likewise.
 pub fn strange_in_entry(part: &[u8]) -> bool
     ensures { λ r. ⌜ r ≡ isPlace (strangeOf entryKnown (now (part .entry))) ⌝ }
 {
+    if part.len() == 0 {
+        return false;
+    }
     let cutoff: [u8; 9] = [0x2b, 0x06, 0x01, 0x05, 0x05, 0x07, 0x30, 0x01, 0x06];
-    let found = critical::strange_place(part, &cutoff, &cutoff);
-    is_there(found)
+    strange_among(part, &cutoff, &cutoff)
 }

@@ -1,7 +1,9 @@
 // A walk made, and stepped.
 use walked::Handed;
+use walked::Stepped;
 use walked::Walk;
 ghost use mathlib.Core.Path.{_≡_};
+ghost use Rattle.walked.specs.Step.{steppedOf};
 ghost use Rattle.walked.specs.Walked.{startOf, sayOf, handOf, movedOf};
 
 // A walk at the first entry.
@@ -11,13 +13,30 @@ pub fn start<'a>(response: &'a [u8]) -> Walk<'a>
     Walk { response, place: 0 }
 }
 
-// A step of a lent walk: what it says, the octets that it hands out, and the walk moves.
+// A step of a lent walk: what it says, the octets that it hands out, and the walk moves. The response is
+// judged once.
 pub fn next<'s, 'a>(w: &'s mut Walk<'a>) -> Handed<'a>
     ensures { λ r. ⌜ (r .says ≡ sayOf (now (w .entry))) × (now (r .part) ≡ handOf (now (w .entry))) × (now (w .exit) ≡ movedOf (now (w .entry))) ⌝ }
 {
-    let says = show::entry_at(w.response, w.place);
-    let part = places::part_at(w.response, w.place);
-    let place = places::place_after(w.response, w.place);
-    w.place = place;
-    Handed { says, part }
+    let step = places::step_at(w.response, w.place);
+    let part = places::part_in(w.response, step.says);
+    w.place = step.place;
+    Handed {
+        says: step.says,
+        part,
+    }
+}
+
+// A walk made, put at a place, and stepped, as numbers: for a caller that holds no walk.
+pub fn step_from(response: &[u8], place: usize) -> Stepped
+    ensures { λ r. ⌜ r ≡ steppedOf (now (response .entry)) place ⌝ }
+{
+    let mut walk = start(response);
+    walk.place = place;
+    let handed = next(&mut walk);
+    Stepped {
+        says: handed.says,
+        size: handed.part.len(),
+        place: walk.place,
+    }
 }

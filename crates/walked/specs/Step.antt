@@ -1,14 +1,16 @@
 -- A step of a walk, by the response and the place: the octets that it hands out, and the place after it.
--- partIn, partOf; placeIn, placeOf. What a step says is response's entryOf.
+-- partIn, partOf; placeIn, placeOf; stepOf, steppedOf. What a step says is show's entryOf.
 -- Assumes nothing.
 use Prim.Native.Nat.{ℕ, _+_}
 use mathlib.Core.List.{List, []}
-use lib.ListN.{take, drop}
+use lib.ListN.{length, take, drop}
 use Rattle.show.specs.Shown.{entryOf}
 use Rattle.show.specs.declared.Entry.{Entry}
 use Rattle.show.specs.declared.Entry.the-variants as entry
+use Rattle.walked.specs.declared.Step.{Step}
+use Rattle.walked.specs.declared.Stepped.{Stepped}
 
--- an entry's octets, header included; nothing at the end or with a refusal
+-- an entry's octets, header included, as far as there are so many; nothing at the end or with a refusal
 unfoldable pub partIn : List ℕ → Entry → List ℕ
 partIn s (entry.At start n) = take n (drop start s)
 partIn s entry.End = []
@@ -27,3 +29,11 @@ placeIn (entry.Refused n c) k = k
 -- the place after a step from a place
 unfoldable pub placeOf : List ℕ → ℕ → ℕ
 placeOf s k = placeIn (entryOf s k) k
+
+-- what a step from a place says, and the place after it
+unfoldable pub stepOf : List ℕ → ℕ → Step
+stepOf s k = record { says = entryOf s k; place = placeOf s k }
+
+-- the same, and how many octets it hands out
+unfoldable pub steppedOf : List ℕ → ℕ → Stepped
+steppedOf s k = record { says = entryOf s k; size = length (partOf s k); place = placeOf s k }

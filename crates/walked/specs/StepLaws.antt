@@ -1,6 +1,6 @@
 -- Laws of a step: where response says that an entry is, the response has a reading with an entry of that
--- ordinal, and its octets are there.
--- Has, entry-has; has-inside, has-few.
+-- ordinal, and all of its octets are there.
+-- Has, entry-has; has-inside, part-sized, has-few.
 -- The definitions are in Step. Assumes nothing.
 use Prim.Native.Nat.{ℕ, _+_, _≤_, _<_}
 use native.Mathlib.Omega.{arith}
@@ -8,7 +8,8 @@ use mathlib.Core.Path.{_≡_, refl, sym, ap, _∙_}
 use mathlib.Core.Bool.{Bool, true, false, cond}
 use mathlib.Core.List.{List}
 use lib.Dec.{ltb}
-use lib.ListN.{length}
+use lib.ListN.{length, drop, length-drop}
+use lib.Seq.{length-take-le}
 use borrow.Author.Tests.{ltb-true, ltb-false}
 use Rattle.octets.specs.Octets.{Octets}
 use Rattle.layout.specs.Reading as reading
@@ -20,6 +21,7 @@ use Rattle.show.specs.EntryLaws.{entry-shown, entry-stands}
 use Rattle.response.specs.declared.Judged.the-variants as judged
 use Rattle.show.specs.declared.Entry.{Entry}
 use Rattle.show.specs.declared.Entry.the-variants as entry
+use Rattle.walked.specs.Step.{partIn, partOf}
 
 -- the response reads as a basic one, which has an entry with this ordinal
 pub record Has (s : List ℕ) (k : ℕ) : Type 0 where
@@ -69,6 +71,11 @@ module _ (s : List ℕ) (o : Octets s) (k start n : ℕ) (e : entryOf s k ≡ en
       let a = ap (λ (x : Entry). startIn x) i in
       let b = ap (λ (x : Entry). lenIn x) i in
       omega (arith, a, b, entry-stands s (has .value) (has .small) (has .read) k o .inside)
+
+  -- so its part has as many octets as are said
+  pub part-sized : length (partOf s k) ≡ n
+  unfolding partOf partIn
+  part-sized = let i = has-inside in rw e (length-take-le n (drop start s) (simp length-drop (omega (arith, i))))
 
   -- there are at most 64 entries
   pub has-few : k < 64

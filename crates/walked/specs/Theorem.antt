@@ -16,11 +16,10 @@ use Rattle.codec.specs.Many.{forms}
 use Rattle.layout.specs.Reading.{Basic, basic}
 use Rattle.layout.specs.Format.{singleResponse}
 use Rattle.layout.specs.Read.{reads, reading}
-use Rattle.response.specs.Parts.{judgedOf}
+use Rattle.response.specs.Parts.{judgedOf, partsIn}
 use Rattle.response.specs.PartsLaws.{entries-stand}
 use Rattle.response.specs.Refusals.{refusalOf}
 use Rattle.show.specs.Shown.{octetsIn, refused}
-use Rattle.response.specs.JudgedLaws.{partsIn}
 use Rattle.response.specs.declared.Parts.{Parts}
 use Rattle.response.specs.declared.Judged.{Judged}
 use Rattle.response.specs.declared.Judged.the-variants as judged

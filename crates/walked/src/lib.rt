@@ -1,5 +1,5 @@
 // What a walk over the entries of a response is: it keeps the lent response and its place in it, the place
-// being the number of entries handed out. A place may be any number. Two types, definitions and the
+// being the number of entries handed out. A place may be any number. Four types, definitions and the
 // theorems about them; the code is in the crates above.
 use show::Entry;
 
@@ -16,4 +16,22 @@ pub struct Handed<'a> {
     pub says: Entry,
     // The entry's octets, header included: the caller's own octets; nothing where there is none.
     pub part: &'a [u8],
+}
+
+// A step by the response and the place, without its part.
+pub struct Step {
+    // As `says` of a `Handed`.
+    pub says: Entry,
+    // The place after the step.
+    pub place: usize,
+}
+
+// A step as numbers, for a caller that holds no walk.
+pub struct Stepped {
+    // As `says` of a `Handed`.
+    pub says: Entry,
+    // How many octets were handed out.
+    pub size: usize,
+    // The place after the step.
+    pub place: usize,
 }

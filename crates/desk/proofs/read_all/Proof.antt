@@ -1,22 +1,26 @@
--- `desk::read_all` is safe and ends: the measure is the number of turns that are left. What it has read is in the space.
+-- `desk::read_all` meets its contract and ends: the measure is the number of turns that are left. The invariant: the first `done`
+-- octets of the space are what is kept of an input.
 -- Assumes nothing.
-use mathlib.Core.Path.{_≡_, refl}
-use Prim.Native.Nat.{_≤_}
+use Prim.Native.Nat.{ℕ}
 use native.Mathlib.Omega.{arith}
+use mathlib.Core.Path.{_≡_, refl}
+use mathlib.Core.List.{List, []}
 use borrow.Author.Needs.{needs}
 use lib.ListN.{length}
-use Rattle.desk.proofs.Cases.{more-inside, end-inside}
+use Rattle.intake.specs.Kept.{Holds}
+use Rattle.intake.specs.KeptLaws.{holds-nothing}
+use Rattle.desk.proofs.Cases.{went-on, ended}
 use Rattle.desk.proofs.read_all.Statement.{statement}
 use Rattle.desk.proofs.read_all.Tie as tie
 
 abbrev Inv-loop : tie.InvT-loop
-Inv-loop space₀ done₀ turns₀ space done turns = (done ≤ length space) × (length space ≡ length space₀)
+Inv-loop space₀ done₀ turns₀ space done turns = ((l : List ℕ) × Holds space done l) × (length space ≡ length space₀)
 
 abbrev μ-loop : tie.MeasureT-loop
 μ-loop space₀ done₀ turns₀ space done turns = turns
 
 loop-holds : tie.Need-loop-holds Inv-loop μ-loop
-loop-holds c = (omega arith, refl)
+loop-holds c = (([], holds-nothing _), refl)
 
 sub-turns : tie.Need-sub-turns Inv-loop μ-loop
 sub-turns c = omega arith
@@ -31,7 +35,14 @@ loop-less : tie.Need-loop-less Inv-loop μ-loop
 loop-less c = omega arith
 
 loop-again : tie.Need-loop-again Inv-loop μ-loop
-loop-again c = (search more-inside, omega arith)
+loop-again c = (
+  went-on
+      _ _ _ _ _
+      (c .before .before .before .before .before .read-more .ensures)
+      (c .before .input .given .1)
+      (c .before .before .before .before .before .before .before .before .loop .inv .0),
+  omega arith,
+)
 
 enum-known-input-2 : tie.Need-enum-known-input-2 Inv-loop μ-loop
 enum-known-input-2 c = search needs
@@ -40,7 +51,7 @@ same-length : tie.Need-same-length Inv-loop μ-loop
 same-length c = search needs
 
 returns : tie.Need-returns Inv-loop μ-loop
-returns c = search end-inside
+returns c = search ended
 
 enum-told : tie.Need-enum-told Inv-loop μ-loop
 enum-told c = search needs
@@ -49,13 +60,13 @@ same-length-2 : tie.Need-same-length-2 Inv-loop μ-loop
 same-length-2 c = search needs
 
 returns-2 : tie.Need-returns-2 Inv-loop μ-loop
-returns-2 c = search needs
+returns-2 c = ([], refl)
 
 same-length-3 : tie.Need-same-length-3 Inv-loop μ-loop
 same-length-3 c = search needs
 
 returns-3 : tie.Need-returns-3 Inv-loop μ-loop
-returns-3 c = search needs
+returns-3 c = ([], refl)
 
 pub read-all-spec : {M : Type 1} → statement M
 read-all-spec =

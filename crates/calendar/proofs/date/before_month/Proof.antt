@@ -6,23 +6,8 @@ use borrow.Author.Needs.{needs}
 use Rattle.calendar.proofs.date.before_month.Statement.{statement}
 use Rattle.calendar.proofs.date.before_month.Tie as tie
 
-sub-i : tie.Need-sub-i
-sub-i c = search needs
-
-mul-wide : tie.Need-mul-wide
-mul-wide c = search needs
-
-array-read-wide : tie.Need-array-read-wide
-array-read-wide c = search needs
-
-wide-requires : tie.Need-wide-requires
-wide-requires c κs = search needs
-
 returns : tie.Need-returns
 returns c = months-first _ _ (c .before .before .pre) _ (c .before .wide .ensures) (omega arith)
-
-is-leap-requires : tie.Need-is-leap-requires
-is-leap-requires c κs = search needs
 
 add-result : tie.Need-add-result
 add-result c = let b = c .before .before .before in omega (arith, b .wide .ensures, sum-short (b .before .args .m) (b .before .pre))
@@ -37,12 +22,12 @@ pub before-month-spec : {M : Type 1} → statement M
 before-month-spec =
     tie.close
     (tie.spec
-    sub-i
-    mul-wide
-    array-read-wide
-    wide-requires
+    (λ c. search needs)
+    (λ c. search needs)
+    (λ c. search needs)
+    (λ c κs. search needs)
     returns
-    is-leap-requires
+    (λ c κs. search needs)
     add-result
     returns-2
     returns-3)

@@ -13,12 +13,6 @@ returns c = none-fits _ (no-century _ _ _ _ _ _ _ (omega arith))
 returns-2 : tie.Need-returns-2
 returns-2 c = none-fits _ (no-year _ _ _ _ _ _ _ (omega arith))
 
-mul-year : tie.Need-mul-year
-mul-year c = search needs
-
-add-year : tie.Need-add-year
-add-year c = search needs
-
 returns-3 : tie.Need-returns-3
 returns-3 c = none-fits _ (no-past _ _ _ _ _ _ _ (omega arith))
 
@@ -40,9 +34,6 @@ returns-8 c = none-fits _ (no-minute _ _ _ _ _ _ _ (omega arith))
 returns-9 : tie.Need-returns-9
 returns-9 c = none-fits _ (no-second _ _ _ _ _ _ _ (omega arith))
 
-day-fits-requires : tie.Need-day-fits-requires
-day-fits-requires c κs = search needs
-
 returns-10 : tie.Need-returns-10
 returns-10 c =
     clock-fit _ _ _ _ _ _ _ (omega arith) (omega arith) (omega arith) (omega arith) (omega arith) (omega arith) (omega arith) (omega arith) _
@@ -54,8 +45,8 @@ clock-fits-spec =
     (tie.spec
     returns
     returns-2
-    mul-year
-    add-year
+    (λ c. search needs)
+    (λ c. search needs)
     returns-3
     returns-4
     returns-5
@@ -63,5 +54,5 @@ clock-fits-spec =
     returns-7
     returns-8
     returns-9
-    day-fits-requires
+    (λ c κs. search needs)
     returns-10)

@@ -12,12 +12,6 @@ returns c = no-century _ _ _ _ _ _ _ (omega arith)
 returns-2 : tie.Need-returns-2
 returns-2 c = no-year _ _ _ _ _ _ _ (omega arith)
 
-mul-year : tie.Need-mul-year
-mul-year c = search needs
-
-add-year : tie.Need-add-year
-add-year c = search needs
-
 returns-3 : tie.Need-returns-3
 returns-3 c = no-past _ _ _ _ _ _ _ (omega arith)
 
@@ -29,9 +23,6 @@ returns-5 c = no-later _ _ _ _ _ _ _ (omega arith)
 
 returns-6 : tie.Need-returns-6
 returns-6 c = no-day _ _ _ _ _ _ _ (omega arith)
-
-month-len-requires : tie.Need-month-len-requires
-month-len-requires c κs = search needs
 
 returns-7 : tie.Need-returns-7
 returns-7 c = no-end _ _ _ _ _ _ _ _ (c .before .month-len .ensures .0) (omega arith)
@@ -45,36 +36,6 @@ returns-9 c = no-minute _ _ _ _ _ _ _ (omega arith)
 returns-10 : tie.Need-returns-10
 returns-10 c = no-second _ _ _ _ _ _ _ (omega arith)
 
-before-year-requires : tie.Need-before-year-requires
-before-year-requires c κs = search needs
-
-before-month-requires : tie.Need-before-month-requires
-before-month-requires c κs = search needs
-
-add-days : tie.Need-add-days
-add-days c = search needs
-
-add-days-2 : tie.Need-add-days-2
-add-days-2 c = search needs
-
-mul-t11 : tie.Need-mul-t11
-mul-t11 c = search needs
-
-mul-t14 : tie.Need-mul-t14
-mul-t14 c = search needs
-
-mul-t13 : tie.Need-mul-t13
-mul-t13 c = search needs
-
-add-t12 : tie.Need-add-t12
-add-t12 c = search needs
-
-add-t15 : tie.Need-add-t15
-add-t15 c = search needs
-
-add-t16 : tie.Need-add-t16
-add-t16 c = search needs
-
 returns-11 : tie.Need-returns-11
 returns-11 c = clock-real _ _ _ _ _ _ _ (omega arith) (omega arith) (omega arith) _ _ (c .before .before-year .ensures .0) (c .before-month .ensures .0)
 
@@ -84,25 +45,25 @@ clock-spec =
     (tie.spec
     returns
     returns-2
-    mul-year
-    add-year
+    (λ c. search needs)
+    (λ c. search needs)
     returns-3
     returns-4
     returns-5
     returns-6
-    month-len-requires
+    (λ c κs. search needs)
     returns-7
     returns-8
     returns-9
     returns-10
-    before-year-requires
-    before-month-requires
-    add-days
-    add-days-2
-    mul-t11
-    mul-t14
-    mul-t13
-    add-t12
-    add-t15
-    add-t16
+    (λ c κs. search needs)
+    (λ c κs. search needs)
+    (λ c. search needs)
+    (λ c. search needs)
+    (λ c. search needs)
+    (λ c. search needs)
+    (λ c. search needs)
+    (λ c. search needs)
+    (λ c. search needs)
+    (λ c. search needs)
     returns-11)

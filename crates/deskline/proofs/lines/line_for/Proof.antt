@@ -1,6 +1,6 @@
 -- `deskline::lines::line_for` meets its contract: the slip has at most 87 octets. Assumes nothing.
 use borrow.Author.Needs.{needs}
-use Rattle.deskline.proofs.LineCases.{line-inside, line-counted, line-count, line-buffer}
+use Rattle.deskline.proofs.LineCases.{line-inside, line-counted, line-count, line-buffer, line-read}
 use Rattle.deskline.proofs.lines.line_for.Statement.{statement}
 use Rattle.deskline.proofs.lines.line_for.Tie as tie
 
@@ -23,7 +23,7 @@ same-length : tie.Need-same-length
 same-length c = search needs
 
 returns : tie.Need-returns
-returns c = (search line-count, search line-buffer)
+returns c = (search line-count, (search line-buffer, search line-read))
 
 pub line-for-spec : {M : Type 1} → statement M
 line-for-spec =

@@ -1,6 +1,6 @@
 -- `request::writers::write_request` meets its contract, by whether the card fits and the buffer has room. Assumes nothing.
 use borrow.Author.Needs.{needs}
-use Rattle.request.proofs.AnswerCases.{size-inside, size-taken, few-octets, all-octets, unfit-answer, unfit-kept, few, size-fits, short-answer, short-kept, written-answer, written-in}
+use Rattle.request.proofs.AnswerCases.{size-inside, size-taken, taken-few, taken-room, unfit-answer, unfit-kept, few, size-fits, short-answer, short-kept, written-answer, written-in}
 use Rattle.request.proofs.writers.write_request.Statement.{statement}
 use Rattle.request.proofs.writers.write_request.Tie as tie
 
@@ -29,7 +29,8 @@ slice-aggregate-put-request-2 : tie.Need-slice-aggregate-put-request-2
 slice-aggregate-put-request-2 c = search needs
 
 put-request-requires : tie.Need-put-request-requires
-put-request-requires c κs = (search (needs, few, few-octets), search (needs, few, all-octets))
+put-request-requires c κs =
+    (search needs, search needs, search (needs, few, taken-few), search (needs, few, taken-room))
 
 same-length : tie.Need-same-length
 same-length c = search needs

@@ -1,2 +1,0 @@
-pub mod EntryRuled
-pub mod EntryRuledLaws

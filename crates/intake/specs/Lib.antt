@@ -1,0 +1,4 @@
+pub mod Kept
+pub mod Room
+pub mod KeptLaws
+pub mod SameLineLaws

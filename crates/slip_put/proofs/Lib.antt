@@ -1,3 +1,0 @@
-pub mod PutCases
-pub mod VerdictCases
-pub mod WriteCases
