@@ -6,7 +6,9 @@
 #   library                       sets archive, and makes it if it is not there or older than the crates
 #   have_x86_64, x86_64           sets cc, alone and emulator: the C compiler for x86-64, its option for a
 #                                 program that needs no shared library here, and what runs it
-#   libcrypto                     sets crypto_cflags and crypto_libs: OpenSSL for x86-64
+#   have_libcrypto, libcrypto     sets crypto_cflags and crypto_libs: OpenSSL for x86-64
+#
+# have_x86_64 and have_libcrypto return 1 where something is missing; x86_64 and libcrypto install it.
 #
 # The library is for x86-64. Elsewhere programs over it are compiled with Debian's cross compiler and
 # run under Debian's qemu-user. No foreign package is installed: amd64 packages are only unpacked, into
@@ -88,21 +90,32 @@ x86_64() {
     have_x86_64 || die "there is still no C compiler for x86-64 that works"
 }
 
-libcrypto() {
-    x86_64
+have_libcrypto() {
+    have_x86_64 || return 1
     if [ "$(uname -m)" = x86_64 ]; then
         crypto_cflags='' crypto_libs=-lcrypto
-        have_header "$cc" openssl/ocsp.h || install "building with OpenSSL's libcrypto" libssl-dev
+        have_header "$cc" openssl/ocsp.h
         return
     fi
     root=${X86_64_ROOT:-target/x86-64}
-    [ -f "$root/.whole" ] || unpack_amd64 libssl-dev
+    [ -f "$root/.whole" ] || return 1
     # The program finds the cross compiler's C library and this libcrypto by itself.
     libc=$(cd "$(dirname "$("$cc" -print-file-name=libc.so.6)")" && pwd)
     unpacked=$root/usr/lib/x86_64-linux-gnu
     crypto_cflags="-I$root/usr/include -I$root/usr/include/x86_64-linux-gnu"
     crypto_libs="-L$unpacked -lcrypto -Wl,-rpath,$libc:$unpacked"
     crypto_libs="$crypto_libs -Wl,--dynamic-linker,$libc/ld-linux-x86-64.so.2"
+}
+
+libcrypto() {
+    x86_64
+    have_libcrypto && return
+    if [ "$(uname -m)" = x86_64 ]; then
+        install "building with OpenSSL's libcrypto" libssl-dev
+    else
+        unpack_amd64 libssl-dev
+    fi
+    have_libcrypto || die "there is still no libcrypto for x86-64"
 }
 
 # apt with lists of its own, of amd64 packages alone: the system's lists stay as they are.

@@ -19,6 +19,8 @@ struct facts {
     uint8_t key_hash[20];
     uint8_t name[DESK_NAME_MAX];
     size_t name_len;
+    int no_check; /* no part of a question: whether a delegate's certificate says that nobody has to ask
+                     whether it was revoked (id-pkix-ocsp-nocheck) */
 };
 
 /* The card of a certificate that `ca` issued. Returns 0 where the certificate has no such card. */
@@ -27,6 +29,9 @@ int card_of(X509 *certificate, X509 *ca, uint8_t card[DESK_CARD_LEN]);
 /*
  * Who signed a response about a card of `ca`, at the time `now`. `trusted` is a responder that this
  * desk trusts whatever the CA says of it, or NULL.
+ *
+ * A signature of an algorithm that this desk does not take is not tried. A delegate whose certificate is
+ * valid now gets the third mark only with no_check: this desk does not ask about delegates themselves.
  */
 void facts_of(const uint8_t *response, size_t rlen, X509 *ca, X509 *trusted, time_t now,
               struct facts *facts);

@@ -2,11 +2,12 @@
  * row: the whole row with real parts. A desk asks a real responder about a card and opens the folio
  * only if the card is good.
  *
- *     row FOLDER DELEGATE ISSUER HELPER DOWN
+ *     row FOLDER DELEGATE ISSUER HELPER DEPUTY PSS WEAK DOWN
  *
  * FOLDER has the certificates that `register` makes; the other words are ports on loopback: the
- * responders that a delegate, the CA itself and a helper without the right usage sign for, and one
- * where nobody listens. Ends with 0 exactly if every scene ended as it should.
+ * responders that a delegate, the CA itself, a helper without the right usage and a deputy without
+ * no-check sign for, two with RSA-PSS (over SHA-256, and over SHA-1), and one where nobody listens.
+ * Ends with 0 exactly if every scene ended as it should.
  */
 #include <inttypes.h>
 #include <stdio.h>
@@ -47,6 +48,15 @@ static void expect(const uint8_t *slip, uint8_t kind, uint8_t number)
     wrong++;
 }
 
+/* The same for the verdict on a signature: "not tried" and "invalid" give the same refusal. */
+static void expect_verdict(uint8_t verdict, uint8_t wanted)
+{
+    if (verdict == wanted)
+        return;
+    printf("  WRONG     the signature should have been judged otherwise\n");
+    wrong++;
+}
+
 /* Writes the request for a card and posts it. Returns 0 where no response came. */
 static int ask(X509 *certificate, X509 *ca, int port, struct response *response)
 {
@@ -77,9 +87,9 @@ static int ask(X509 *certificate, X509 *ca, int port, struct response *response)
     return 1;
 }
 
-/* Finds the facts about a response out, asks the check, and says what it answers. */
-static void judge(const struct response *response, X509 *certificate, X509 *ca, X509 *trusted,
-                  time_t now, uint8_t slip[DESK_SLIP_MAX])
+/* Finds the facts about a response out, asks the check, and says what it answers. Returns the verdict. */
+static uint8_t judge(const struct response *response, X509 *certificate, X509 *ca, X509 *trusted,
+                     time_t now, uint8_t slip[DESK_SLIP_MAX])
 {
     uint8_t card[DESK_CARD_LEN] = {0}, question[DESK_QUESTION_LEN];
     struct facts facts;
@@ -90,17 +100,18 @@ static void judge(const struct response *response, X509 *certificate, X509 *ca, 
     memset(slip, 0, DESK_SLIP_MAX);
     say_slip(slip, desk_check(question, sizeof question, response->octets, response->len, slip,
                               DESK_SLIP_MAX));
+    return facts.verdict;
 }
 
 /* A whole scene of the common kind: asks, and judges at once. */
-static void play(const char *what, X509 *certificate, X509 *ca, int port, uint8_t kind,
-                 uint8_t number)
+static void play(const char *what, X509 *certificate, X509 *ca, int port, uint8_t verdict,
+                 uint8_t kind, uint8_t number)
 {
     struct response response;
     uint8_t slip[DESK_SLIP_MAX] = {0};
     scene(what);
     if (ask(certificate, ca, port, &response))
-        judge(&response, certificate, ca, NULL, time(NULL), slip);
+        expect_verdict(judge(&response, certificate, ca, NULL, time(NULL), slip), verdict);
     expect(slip, kind, number);
 }
 
@@ -122,17 +133,32 @@ static void play_stale(X509 *card, X509 *ca, int port)
     expect(slip, DESK_REFUSAL, 16);
 }
 
+/* A slip is not signed: what comes back from elsewhere may be no slip any more. */
+static void play_kept_slip(X509 *card, X509 *ca, int port)
+{
+    struct response response;
+    uint8_t slip[DESK_SLIP_MAX] = {0};
+    scene("a slip is kept, and damaged before it is read again");
+    if (ask(card, ca, port, &response))
+        expect_verdict(judge(&response, card, ca, NULL, time(NULL), slip), DESK_VALID);
+    expect(slip, DESK_GOOD, 0);
+    slip[0] = DESK_REFUSAL;
+    printf("  read again, with its first octet changed:\n");
+    if (say_slip(slip, 78) != 17)
+        wrong++;
+}
+
 /* One octet of the signed part is changed between the responder and the desk. */
-static void play_altered(X509 *card, X509 *ca, int port)
+static void play_altered(const char *what, X509 *card, X509 *ca, int port)
 {
     struct response response;
     uint8_t slip[DESK_SLIP_MAX] = {0};
     size_t from, len;
-    scene("an answer is altered on its way");
+    scene(what);
     if (ask(card, ca, port, &response) &&
         desk_signed(response.octets, response.len, &from, &len) == 0) {
         response.octets[from + len - 2] ^= 1; /* the last digit of nextUpdate */
-        judge(&response, card, ca, NULL, time(NULL), slip);
+        expect_verdict(judge(&response, card, ca, NULL, time(NULL), slip), DESK_INVALID);
     }
     expect(slip, DESK_REFUSAL, 6);
 }
@@ -181,23 +207,31 @@ static X509 *certificate_in(const char *folder, const char *name)
 
 int main(int argc, char **argv)
 {
-    if (argc != 6) {
-        fprintf(stderr, "usage: row FOLDER DELEGATE ISSUER HELPER DOWN (four ports)\n");
+    if (argc != 9) {
+        fprintf(stderr, "usage: row FOLDER DELEGATE ISSUER HELPER DEPUTY PSS WEAK DOWN (seven ports)\n");
         return 2;
     }
     X509 *ca = certificate_in(argv[1], "house/ca"), *other_ca = certificate_in(argv[1], "branch/ca");
     X509 *ada = certificate_in(argv[1], "house/ada"), *ben = certificate_in(argv[1], "house/ben");
     X509 *cleo = certificate_in(argv[1], "house/cleo"), *dora = certificate_in(argv[1], "branch/dora");
     X509 *delegate_certificate = certificate_in(argv[1], "house/delegate");
-    int delegate = atoi(argv[2]), issuer = atoi(argv[3]), helper = atoi(argv[4]), down = atoi(argv[5]);
+    int delegate = atoi(argv[2]), issuer = atoi(argv[3]), helper = atoi(argv[4]);
+    int deputy = atoi(argv[5]), pss = atoi(argv[6]), weak = atoi(argv[7]), down = atoi(argv[8]);
 
-    play("a card in good standing", ada, ca, delegate, DESK_GOOD, 0);
-    play("the same card, and the CA itself signs", ada, ca, issuer, DESK_GOOD, 0);
-    play("a revoked card", ben, ca, delegate, DESK_REVOKED, 0);
-    play("a card that the register does not know", cleo, ca, delegate, DESK_UNKNOWN, 0);
+    play("a card in good standing", ada, ca, delegate, DESK_VALID, DESK_GOOD, 0);
+    play("the same card, and the CA itself signs", ada, ca, issuer, DESK_VALID, DESK_GOOD, 0);
+    play("a revoked card", ben, ca, delegate, DESK_VALID, DESK_REVOKED, 0);
+    play("a card that the register does not know", cleo, ca, delegate, DESK_VALID, DESK_UNKNOWN, 0);
     play_stale(ada, ca, delegate);
-    play_altered(ada, ca, delegate);
-    play("the delegate has no OCSPSigning", ada, ca, helper, DESK_REFUSAL, 8);
+    play_kept_slip(ada, ca, delegate);
+    play_altered("an answer is altered on its way", ada, ca, delegate);
+    play("a signature by RSA-PSS", ada, ca, pss, DESK_VALID, DESK_GOOD, 0);
+    play_altered("the same, and the answer is altered on its way", ada, ca, pss);
+    play("RSA-PSS over SHA-1, which this desk does not take", ada, ca, weak, DESK_NOT_TRIED,
+         DESK_REFUSAL, 6);
+    play("the delegate has no OCSPSigning", ada, ca, helper, DESK_VALID, DESK_REFUSAL, 8);
+    play("the delegate has no no-check, and nobody asked about it", ada, ca, deputy, DESK_VALID,
+         DESK_REFUSAL, 8);
     play_other_issuer(ada, ca, dora, other_ca, delegate_certificate, delegate);
     play_down(ada, ca, down);
 

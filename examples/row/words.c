@@ -61,10 +61,12 @@ void say_signer(const struct facts *facts)
     if (facts->verdict == DESK_VALID && facts->role == DESK_TRUSTED)
         printf("; a responder that this desk trusts");
     if (facts->verdict == DESK_VALID && facts->role == DESK_DELEGATE)
-        printf("; a delegate: %s by this CA, %s OCSPSigning, %s now",
+        printf("; a delegate: %s by this CA, %s OCSPSigning, %s",
                facts->marks & DESK_BY_ISSUER ? "issued" : "not issued",
                facts->marks & DESK_OCSP_SIGNING ? "has" : "without",
-               facts->marks & DESK_VALID_NOW ? "valid" : "not valid");
+               facts->marks & DESK_VALID_NOW ? "valid now"
+               : facts->no_check             ? "not valid now"
+                                             : "perhaps revoked itself (it has no no-check)");
     printf("\n");
 }
 
@@ -78,7 +80,7 @@ static const char *const refusals[] = {
     "the response is not of the basic type",
     "the signature was not found valid",
     "the response names another responder than the one who signed it",
-    "the delegate is not issued by this CA, lacks OCSPSigning, or is not valid now",
+    "one of the delegate's three marks is missing",
     "the response has a critical extension that is not understood",
     "the response has no entry for this card",
     "the response has two or more entries for this card",
@@ -105,12 +107,14 @@ static const char *const reasons[] = {"unspecified",
                                       "privilege withdrawn",
                                       "AA compromise"};
 
-void say_slip(const uint8_t *slip, size_t len)
+size_t say_slip(const uint8_t *slip, size_t len)
 {
     static const char *const kinds[] = {NULL, "good", "revoked", "unknown"};
     char from[40], until[40], since[40];
-    if (len == 0) {
-        printf("  answer    none: the buffer for the slip is too short\n");
+    /* What is no slip has no fields, and its octets are nothing to look up by. */
+    size_t broken = desk_slip(slip, len);
+    if (broken != 0) {
+        printf("  answer    none: these octets are no slip (%zu)\n", broken);
     } else if (slip[0] == DESK_REFUSAL) {
         printf("  answer    none: %s (refusal %d", refusals[slip[1]], slip[1]);
         if (slip[2] != 0)
@@ -120,8 +124,9 @@ void say_slip(const uint8_t *slip, size_t len)
         printf("  answer    %s, from %s to %s\n", kinds[slip[0]],
                time_at(slip + 62, from, sizeof from), time_at(slip + 70, until, sizeof until));
     }
-    if (len != 0 && slip[0] == DESK_REVOKED)
+    if (broken == 0 && slip[0] == DESK_REVOKED)
         printf("            revoked at %s, reason: %s\n", time_at(slip + 78, since, sizeof since),
                slip[86] == DESK_NO_REASON ? "none given" : reasons[slip[86]]);
-    printf("  folio     %s\n", len != 0 && slip[0] == DESK_GOOD ? "opens" : "stays closed");
+    printf("  folio     %s\n", broken == 0 && slip[0] == DESK_GOOD ? "opens" : "stays closed");
+    return broken;
 }

@@ -14,7 +14,10 @@ uint64_t number_at(const uint8_t *at, int n);
 /* Prints who signed, in words. */
 void say_signer(const struct facts *facts);
 
-/* Prints what a slip says, in words, and what follows for the folio. */
-void say_slip(const uint8_t *slip, size_t len);
+/*
+ * Prints what a slip says, in words, and what follows for the folio. Returns what desk_slip does: 0, or 17
+ * where the octets are no slip, and then nothing is read from them.
+ */
+size_t say_slip(const uint8_t *slip, size_t len);
 
 #endif

@@ -67,6 +67,11 @@ pub fn put_together(question: &Question, response: &[u8]) -> Vec<u8> {
     input
 }
 
+/// The response in an input: what follows the question, whatever that is.
+pub fn response_in(input: &[u8]) -> &[u8] {
+    input.get(HEAD..).unwrap_or(&[])
+}
+
 /// What the program answers.
 pub fn answer(input: &[u8]) -> Answer {
     match take_apart(input) {

@@ -18,12 +18,13 @@ pub fn basic(octets: &[u8], base: usize) -> Result<Basic, Misfit> {
 
     let signed_element = holder.need(0x30, BASIC)?;
     let signed = signed_part(signed_element)?;
-    let signature_algorithm = algorithm(holder.need(0x30, BASIC)?)?;
+    let algorithm_element = holder.need(0x30, BASIC)?;
+    let signature_algorithm = algorithm(algorithm_element)?;
     let bits = holder.need(0x03, BASIC)?;
     rule(contents(bits).len() >= 2 && contents(bits)[0] == 0, bits, BASIC)?;
-    let certificates = match holder.maybe(0xA0, BASIC)? {
-        Some(outer) => Some(certificates(outer)?),
-        None => None,
+    let (certificates, place) = match holder.maybe(0xA0, BASIC)? {
+        Some(outer) => certificates(outer).map(|(trees, place)| (Some(trees), place))?,
+        None => (None, Span { from: 0, len: 0 }),
     };
     holder.filled(FILLED)?;
     string.filled(FILLED)?;
@@ -39,7 +40,9 @@ pub fn basic(octets: &[u8], base: usize) -> Result<Basic, Misfit> {
             certificates,
         },
         signed_part: span(signed_element),
+        algorithm: span(algorithm_element),
         signature: Span { from: bits.start + 1, len: bits.end - bits.start - 1 },
+        certificates: place,
         entries: signed.spans,
     })
 }
@@ -199,16 +202,24 @@ fn oid_of(holder: &mut Holder, why: &'static str) -> Result<Vec<u8>, Misfit> {
     Ok(contents(element).to_vec())
 }
 
-fn certificates(outer: &Element) -> Result<Vec<Tree>, Misfit> {
+/// The certificates, and the place of all of them together.
+fn certificates(outer: &Element) -> Result<(Vec<Tree>, Span), Misfit> {
     let mut holder = Holder::of(outer);
     let list = holder.need(0x30, BASIC)?;
     let mut trees = Vec::new();
+    let mut places = Vec::new();
     for_each(list, 8, BASIC, |items| {
-        trees.push(free(items.need(0x30, BASIC)?, 1)?);
+        let certificate = items.need(0x30, BASIC)?;
+        trees.push(free(certificate, 1)?);
+        places.push(span(certificate));
         Ok(())
     })?;
     holder.filled(FILLED)?;
-    Ok(trees)
+    let place = Span {
+        from: places.first().map_or(0, |first| first.from),
+        len: places.iter().map(|place| place.len).sum(),
+    };
+    Ok((trees, place))
 }
 
 /// "maybe A1 extensions", in the signed part and in an entry.

@@ -97,6 +97,9 @@ pub struct Span {
 pub struct Basic {
     pub reading: Reading,
     pub signed_part: Span,
+    pub algorithm: Span,
     pub signature: Span,
+    /// Without the A0 and the sequence around them; none at all is 0 and 0.
+    pub certificates: Span,
     pub entries: Vec<Span>,
 }

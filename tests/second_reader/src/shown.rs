@@ -1,5 +1,6 @@
-//! What is shown of a response: the signed part, the signature, and the walk
-//! over its entries.  None of them asks a question; they refuse with 2 to 5.
+//! What is shown of a response: the signed part, the signature with its
+//! algorithm, the certificates, and the walk over the entries.  None of them
+//! asks a question; they refuse with 2 to 5.
 
 use crate::layout::{self, Refusal};
 use crate::reading::Span;
@@ -12,6 +13,17 @@ pub fn signed_part(response: &[u8]) -> Result<Span, Refusal> {
 /// 01: "the signature likewise, without the 00".
 pub fn signature(response: &[u8]) -> Result<Span, Refusal> {
     Ok(layout::read(response)?.signature)
+}
+
+/// The signature's algorithm identifier, header included.
+pub fn algorithm(response: &[u8]) -> Result<Span, Refusal> {
+    Ok(layout::read(response)?.algorithm)
+}
+
+/// The certificates one after the other, without the A0 and the sequence that
+/// hold them; 0 and 0 where there are none.
+pub fn certificates(response: &[u8]) -> Result<Span, Refusal> {
+    Ok(layout::read(response)?.certificates)
 }
 
 /// 01: "The walk over entries keeps the lent response and its place in it, the

@@ -8,7 +8,7 @@ use second_reader::desk;
 use second_reader::layout;
 use second_reader::question::Card;
 use second_reader::reading::Span;
-use second_reader::shown::{signature, signed_part, Step, Walk};
+use second_reader::shown::{algorithm, certificates, signature, signed_part, Step, Walk};
 use second_reader::slip::write_slip;
 
 #[test]
@@ -122,6 +122,13 @@ fn parts_shown() {
     assert_eq!(signed_part(&response), Ok(Span { from: at, len: signed.len() }));
     let bits = find(&response, &h("03 03 00 aa bb"));
     assert_eq!(signature(&response), Ok(Span { from: bits + 3, len: 2 }));
+    assert_eq!(algorithm(&response), Ok(Span { from: bits - 15, len: 15 }));
+    // No certificates: absent, and a list of none. Two of them, without what holds them.
+    assert_eq!(certificates(&response), Ok(Span { from: 0, len: 0 }));
+    let none = with(|parts| parts.certificates = h("a0 02 30 00"));
+    assert_eq!(certificates(&none), Ok(Span { from: 0, len: 0 }));
+    let two = with(|parts| parts.certificates = h("a0 08 30 06 30 02 05 00 30 00"));
+    assert_eq!(certificates(&two), Ok(Span { from: two.len() - 6, len: 6 }));
     for (octets, number, status) in [
         (vec![0; 16_385], 2, 0),
         (vec![], 3, 0),
@@ -129,8 +136,8 @@ fn parts_shown() {
         (envelope("2a03", &[]), 5, 0),
         (envelope("2b0601050507300101", &[]), 3, 0),
     ] {
-        for shown in [signed_part(&octets), signature(&octets)] {
-            let refusal = shown.unwrap_err();
+        for show in [signed_part, algorithm, signature, certificates] {
+            let refusal = show(&octets).unwrap_err();
             assert_eq!((refusal.number, refusal.status), (number, status));
         }
     }

@@ -4,7 +4,7 @@ use std::io::{self, Read, Write};
 use std::path::Path;
 use std::process::ExitCode;
 
-use second_reader::cases::answers::{line, place_line, Counts};
+use second_reader::cases::answers::{line, parts_line, place_line, Counts};
 use second_reader::cases::record::{read_stream, Record};
 use second_reader::cases::{generate, published, table};
 use second_reader::hex;
@@ -14,6 +14,7 @@ cases mutated DIR SEED COUNT   the same responses with octets damaged
 cases generate SEED COUNT      cases made from a seed
 cases answers < STREAM         one line of answer for each case
 cases places < STREAM          the place for each desk case that gives 3, else -
+cases parts < STREAM           what is shown of each desk case's response, else -
 cases counts < STREAM          how often each outcome comes
 cases only OPS SIZE < STREAM   the cases of these operations (as 2,3,4) with at most SIZE octets
 cases show INDEX < STREAM      one case in hex, with its answer and place
@@ -48,6 +49,7 @@ fn run(words: &[&str]) -> Result<(), String> {
         }
         ["answers"] => write_lines(line),
         ["places"] => write_lines(|record| Ok(place_line(record))),
+        ["parts"] => write_lines(|record| Ok(parts_line(record))),
         ["counts"] => {
             let mut counts = Counts::default();
             read_input()?.iter().for_each(|record| counts.add(record));
@@ -57,7 +59,9 @@ fn run(words: &[&str]) -> Result<(), String> {
         ["only", operations, size] => {
             let wanted = operations.split(',').map(number).collect::<Result<Vec<u64>, String>>()?;
             let size = number(size)? as usize;
-            let kept = |record: &Record| wanted.contains(&u64::from(record.operation)) && record.body.len() <= size;
+            let kept = |record: &Record| {
+                wanted.contains(&u64::from(record.operation)) && record.body.len() <= size
+            };
             write_stream(read_input()?.into_iter().filter(kept))
         }
         ["show", index] => {

@@ -10,7 +10,7 @@ use crate::layout::Refusal;
 use crate::question::{Card, CARD};
 use crate::reading::Span;
 use crate::request::write_request;
-use crate::shown::{signature, signed_part, Step, Walk};
+use crate::shown::{algorithm, certificates, signature, signed_part, Step, Walk};
 use crate::slip::{read_slip, write_slip};
 
 /// The answer's line, without its line feed.
@@ -75,6 +75,18 @@ fn written(size: u8, write: impl FnOnce(&mut [u8]) -> Result<usize, u8>) -> Stri
 pub fn place_line(record: &Record) -> String {
     let place = if record.operation == DESK { desk::place(&record.body) } else { None };
     place.map_or("-".to_string(), |place| place.to_string())
+}
+
+/// What is shown of a desk record's response, each as its own operation says
+/// it: the signed part, the algorithm, the signature, the certificates.
+pub fn parts_line(record: &Record) -> String {
+    if record.operation != DESK {
+        return "-".to_string();
+    }
+    let response = desk::response_in(&record.body);
+    [signed_part, algorithm, signature, certificates]
+        .map(|show| span_line(show(response)))
+        .join(", ")
 }
 
 /// In short what an answer was, for counting.

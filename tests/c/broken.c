@@ -1,0 +1,216 @@
+/*
+ * Wrong functions, to see that edges.c notices them. Linked with --wrap for every function of desk.h:
+ * each does what the library's does, and the fault besides that the number in BROKEN names, counted from
+ * 1. With the word `list` there, the program only prints the faults, a line for each.
+ */
+#include <stdio.h>
+#include <stdlib.h>
+#include <string.h>
+
+#include "desk.h"
+
+#define FAULTS(F) \
+    F(CARD_PAST, "desk_request reads past the card") \
+    F(CARD_BEFORE, "desk_request reads before the card") \
+    F(REQUEST_PAST, "desk_request writes past the request") \
+    F(REQUEST_BEFORE, "desk_request writes before the request") \
+    F(REQUEST_SHORT, "desk_request writes into a buffer that is too short") \
+    F(REQUEST_OTHER, "desk_request writes another algorithm") \
+    F(REQUEST_LENGTH, "desk_request returns the length of the buffer") \
+    F(REFUSAL_PAST, "desk_refusal reads past the response") \
+    F(REFUSAL_BEFORE, "desk_refusal reads before the response") \
+    F(REFUSAL_DROPS, "desk_refusal leaves the status out") \
+    F(REFUSAL_LEAVES, "desk_refusal leaves the status as it was") \
+    F(REFUSAL_BESIDE, "desk_refusal writes beside the status") \
+    F(SIGNED_PAST, "desk_signed reads past the response") \
+    F(SIGNED_BEFORE, "desk_signed reads before the response") \
+    F(SIGNED_LEAVES, "desk_signed leaves *from as it was with a refusal") \
+    F(SIGNED_BEFORE_FROM, "desk_signed writes before *from") \
+    F(SIGNED_PAST_LEN, "desk_signed writes past *len") \
+    F(SIGNED_HEADER, "desk_signed leaves an octet of the header out") \
+    F(ALGORITHM_PAST, "desk_algorithm reads past the response") \
+    F(ALGORITHM_CONTENT, "desk_algorithm shows the content alone") \
+    F(ALGORITHM_SIGNED, "desk_algorithm shows the signed part") \
+    F(SIGNATURE_BEFORE, "desk_signature reads before the response") \
+    F(SIGNATURE_BITS, "desk_signature shows the 00 too") \
+    F(CERTIFICATES_PAST, "desk_certificates reads past the response") \
+    F(CERTIFICATES_HELD, "desk_certificates shows the sequence's header too") \
+    F(CERTIFICATES_NONE, "desk_certificates shows none at a place") \
+    F(QUESTION_PAST, "desk_check reads past the question") \
+    F(QUESTION_BEFORE, "desk_check reads before the question") \
+    F(QUESTION_WRITTEN, "desk_check writes into the question") \
+    F(RESPONSE_PAST, "desk_check reads past the response") \
+    F(RESPONSE_BEFORE, "desk_check reads before the response") \
+    F(RESPONSE_WRITTEN, "desk_check writes into the response") \
+    F(SLIP_PAST, "desk_check writes past the slip") \
+    F(SLIP_BEFORE, "desk_check writes before the slip") \
+    F(SLIP_SHORT, "desk_check writes into a buffer that is too short") \
+    F(SLIP_UNKNOWN, "desk_check says good where the card is unknown") \
+    F(SLIP_LONG, "desk_check wants one octet more than the slip has") \
+    F(READER_PAST, "desk_slip reads past the slip") \
+    F(READER_BEFORE, "desk_slip reads before the slip") \
+    F(READER_TAKES, "desk_slip takes everything") \
+    F(READER_REFUSES, "desk_slip refuses everything") \
+    F(ENTRY_PAST, "desk_entry reads past the response") \
+    F(ENTRY_NEXT, "desk_entry shows the entry behind") \
+    F(ENTRY_LAST, "desk_entry shows the first entry past the last")
+
+#define NAME(fault, what) fault,
+#define WHAT(fault, what) what,
+enum fault { NONE, FAULTS(NAME) FAULT_COUNT };
+static const char *const whats[] = {FAULTS(WHAT)};
+static int broken;
+
+__attribute__((constructor)) static void choose(void)
+{
+    const char *word = getenv("BROKEN");
+    broken = word == NULL ? NONE : atoi(word);
+    if (word == NULL || strcmp(word, "list") != 0)
+        return;
+    for (size_t i = 0; i < sizeof whats / sizeof *whats; i++)
+        puts(whats[i]);
+    exit(0);
+}
+
+/* Reads an octet before or past what is lent. */
+static void touch(const uint8_t *octets, size_t len, int before, int past)
+{
+    if (broken == before)
+        (void)*(const volatile uint8_t *)(octets - 1);
+    if (broken == past)
+        (void)*(const volatile uint8_t *)(octets + len);
+}
+
+#define OUTSIDE (FAULT_COUNT + 1) /* no fault of this function */
+
+size_t __real_desk_request(const uint8_t *card, size_t clen, uint8_t *out, size_t outlen);
+size_t __wrap_desk_request(const uint8_t *card, size_t clen, uint8_t *out, size_t outlen)
+{
+    touch(card, clen, CARD_BEFORE, CARD_PAST);
+    size_t n = __real_desk_request(card, clen, out, outlen);
+    if (broken == REQUEST_PAST)
+        out[n] = 0;
+    if (broken == REQUEST_BEFORE)
+        out[-1] = 0;
+    if (broken == REQUEST_SHORT && n == 0 && outlen > 0)
+        out[0] = 0;
+    if (broken == REQUEST_OTHER && n > 0)
+        out[18] ^= 1;
+    return broken == REQUEST_LENGTH && n > 0 ? outlen : n;
+}
+
+size_t __real_desk_refusal(const uint8_t *response, size_t rlen, size_t *status);
+size_t __wrap_desk_refusal(const uint8_t *response, size_t rlen, size_t *status)
+{
+    size_t was = *status;
+    touch(response, rlen, REFUSAL_BEFORE, REFUSAL_PAST);
+    size_t number = __real_desk_refusal(response, rlen, status);
+    if (broken == REFUSAL_DROPS)
+        *status = 0;
+    if (broken == REFUSAL_LEAVES && number != 4)
+        *status = was;
+    if (broken == REFUSAL_BESIDE)
+        status[1] = 0;
+    return number;
+}
+
+size_t __real_desk_signed(const uint8_t *response, size_t rlen, size_t *from, size_t *len);
+size_t __wrap_desk_signed(const uint8_t *response, size_t rlen, size_t *from, size_t *len)
+{
+    size_t was = *from;
+    touch(response, rlen, SIGNED_BEFORE, SIGNED_PAST);
+    size_t number = __real_desk_signed(response, rlen, from, len);
+    if (broken == SIGNED_LEAVES && number != 0)
+        *from = was;
+    if (broken == SIGNED_BEFORE_FROM)
+        from[-1] = 0;
+    if (broken == SIGNED_PAST_LEN)
+        len[1] = 0;
+    if (broken == SIGNED_HEADER && number == 0) {
+        *from += 1;
+        *len -= 1;
+    }
+    return number;
+}
+
+size_t __real_desk_algorithm(const uint8_t *response, size_t rlen, size_t *from, size_t *len);
+size_t __wrap_desk_algorithm(const uint8_t *response, size_t rlen, size_t *from, size_t *len)
+{
+    touch(response, rlen, OUTSIDE, ALGORITHM_PAST);
+    size_t number = __real_desk_algorithm(response, rlen, from, len);
+    if (broken == ALGORITHM_CONTENT && number == 0) {
+        *from += 2;
+        *len -= 2;
+    }
+    return broken == ALGORITHM_SIGNED ? __real_desk_signed(response, rlen, from, len) : number;
+}
+
+size_t __real_desk_signature(const uint8_t *response, size_t rlen, size_t *from, size_t *len);
+size_t __wrap_desk_signature(const uint8_t *response, size_t rlen, size_t *from, size_t *len)
+{
+    touch(response, rlen, SIGNATURE_BEFORE, OUTSIDE);
+    size_t number = __real_desk_signature(response, rlen, from, len);
+    if (broken == SIGNATURE_BITS && number == 0) {
+        *from -= 1;
+        *len += 1;
+    }
+    return number;
+}
+
+size_t __real_desk_certificates(const uint8_t *response, size_t rlen, size_t *from, size_t *len);
+size_t __wrap_desk_certificates(const uint8_t *response, size_t rlen, size_t *from, size_t *len)
+{
+    touch(response, rlen, OUTSIDE, CERTIFICATES_PAST);
+    size_t number = __real_desk_certificates(response, rlen, from, len);
+    if (broken == CERTIFICATES_HELD && *len > 0) {
+        *from -= 2;
+        *len += 2;
+    }
+    if (broken == CERTIFICATES_NONE && number == 0 && *len == 0)
+        *from = rlen;
+    return number;
+}
+
+size_t __real_desk_check(const uint8_t *question, size_t qlen, const uint8_t *response, size_t rlen,
+                         uint8_t *slip, size_t sliplen);
+size_t __wrap_desk_check(const uint8_t *question, size_t qlen, const uint8_t *response, size_t rlen,
+                         uint8_t *slip, size_t sliplen)
+{
+    touch(question, qlen, QUESTION_BEFORE, QUESTION_PAST);
+    touch(response, rlen, RESPONSE_BEFORE, RESPONSE_PAST);
+    if (broken == QUESTION_WRITTEN && qlen > 0)
+        *(volatile uint8_t *)question = question[0];
+    if (broken == RESPONSE_WRITTEN && rlen > 0)
+        *(volatile uint8_t *)response = response[0];
+    size_t n = __real_desk_check(question, qlen, response, rlen, slip, sliplen);
+    if (broken == SLIP_PAST)
+        slip[n] = 0;
+    if (broken == SLIP_BEFORE)
+        slip[-1] = 0;
+    if (broken == SLIP_SHORT && n == 0 && sliplen > 0)
+        slip[sliplen - 1] = 0;
+    if (broken == SLIP_UNKNOWN && n > 0 && slip[0] == DESK_UNKNOWN)
+        slip[0] = DESK_GOOD;
+    return broken == SLIP_LONG && n == sliplen ? 0 : n;
+}
+
+size_t __real_desk_slip(const uint8_t *slip, size_t sliplen);
+size_t __wrap_desk_slip(const uint8_t *slip, size_t sliplen)
+{
+    touch(slip, sliplen, READER_BEFORE, READER_PAST);
+    size_t number = __real_desk_slip(slip, sliplen);
+    return broken == READER_TAKES ? 0 : broken == READER_REFUSES ? 17 : number;
+}
+
+size_t __real_desk_entry(const uint8_t *response, size_t rlen, size_t ordinal, size_t *from,
+                         size_t *len);
+size_t __wrap_desk_entry(const uint8_t *response, size_t rlen, size_t ordinal, size_t *from,
+                         size_t *len)
+{
+    touch(response, rlen, OUTSIDE, ENTRY_PAST);
+    size_t number =
+        __real_desk_entry(response, rlen, ordinal + (broken == ENTRY_NEXT ? 1 : 0), from, len);
+    if (broken == ENTRY_LAST && number == 0 && *len == 0)
+        number = __real_desk_entry(response, rlen, 0, from, len);
+    return number;
+}
