@@ -12,6 +12,7 @@ BEGIN {
     split("desk_check,desk_signed,plain C,wolfSSL,OpenSSL", title, ",")
 }
 NR == 1 { next }
+$1 == "request" { cost["request", $4] = $5; written[$4] = $6; next }
 !($1 in octets) { shape[++shapes] = $1 }
 { octets[$1] = $2; entries[$1] = $3; cost[$1, $4] = $5; said[$1, $4] = $6 }
 END {
@@ -27,6 +28,8 @@ END {
         print ""
     }
     print ""
+    printf "The request for a card, %d octets: desk_request %d; a copy of them: %d by a loop, %d by memcpy\n", written["request"], cost["request", "request"], cost["request", "copy"], cost["request", "memcpy"]
+    print ""
     verdict(times("entries-64", "desk") <= 2, sprintf("64 entries: at most 2 times one pass: %.2f", times("entries-64", "desk")))
     verdict(times("entries-1", "desk") <= 3, sprintf("1 entry, RSA: at most 3 times one pass: %.2f", times("entries-1", "desk")))
     verdict(times("ecdsa-1", "desk") <= 3, sprintf("1 entry, ECDSA: at most 3 times one pass: %.2f", times("ecdsa-1", "desk")))
@@ -36,6 +39,12 @@ END {
             if (cost[shape[i], "desk"] >= cost[shape[i], peer[k]]) behind = behind " " shape[i]
         verdict(behind == "", "ahead of " title[k] " on every response" (behind == "" ? "" : "; not on" behind))
     }
+    more = cost["entries-1", "desk"] - cost["entries-1", "signed"]
+    verdict(more <= 900, sprintf("1 entry: desk_check at most 900 more than desk_signed: %s", commas(more)))
+    beside = cost["entries-64", "desk"] / cost["entries-64", "plain"]
+    verdict(beside <= 1.05, sprintf("64 entries: at most 1.05 times plain C: %.3f", beside))
+    copies = cost["request", "request"] / cost["request", "copy"]
+    verdict(written["request"] == written["copy"] && copies <= 2, sprintf("a request: at most 2 times a copy of its octets: %.2f", copies))
     split("good revoked unknown none", word, " ")
     for (i = 1; i <= shapes; i++) {
         r = shape[i]
