@@ -20,7 +20,6 @@ use Rattle.extensions.proofs.read_extensions.Reads as extensions-read-extension
 use Rattle.critical.proofs.strange_place.Reads as critical-strange-place
 use Rattle.ending.proofs.extensions_maybe.Reads as ending-extensions-maybe
 use Rattle.ending.proofs.next_and_more.Reads as ending-next-and-more
-use Rattle.ending.proofs.read_next.Reads as ending-read-next
 use Rattle.entry.proofs.read_single.Reads as entry-read-single
 use Rattle.entry.proofs.read_entries.Reads as entry-read-entries
 use Rattle.look.proofs.look_at.Reads as look-look-at
@@ -89,9 +88,6 @@ ending-extensions-maybe-settled = settled _ _ _ (λ k a. tt) (λ k a z e p. p)
 
 pub ending-next-and-more-settled : Settled ending-next-and-more.Asked ending-next-and-more.Learnt
 ending-next-and-more-settled = settled _ _ _ (λ k a. tt) (λ k a z e p. p)
-
-pub ending-read-next-settled : Settled ending-read-next.Asked ending-read-next.Learnt
-ending-read-next-settled = settled _ _ _ (λ k a. tt) (λ k a z e p. p)
 
 -- ── crate entry ──
 pub entry-read-single-settled : Settled entry-read-single.Asked entry-read-single.Learnt

@@ -13,7 +13,6 @@ use Rattle.spots.proofs.read_any_string.Reads as spots-read-any-string
 use Rattle.spots.proofs.read_oid.Reads as spots-read-oid
 use Rattle.spots.proofs.read_bits.Reads as spots-read-bits
 use Rattle.numbers.proofs.read_serial.Reads as numbers-read-serial
-use Rattle.numbers.proofs.read_time.Reads as numbers-read-time
 use Rattle.numbers.proofs.judge_time.Reads as numbers-judge-time
 use Rattle.words.proofs.read_code.Reads as words-read-code
 use Rattle.words.proofs.read_reason_code.Reads as words-read-reason-code
@@ -50,9 +49,6 @@ spots-read-bits-settled = settled _ _ _ (λ k a. tt) (λ k a z e p. p)
 -- ── crate numbers ──
 pub numbers-read-serial-settled : Settled numbers-read-serial.Asked numbers-read-serial.Learnt
 numbers-read-serial-settled = settled _ _ _ (λ k a. tt) (λ k a z e p. p)
-
-pub numbers-read-time-settled : Settled numbers-read-time.Asked numbers-read-time.Learnt
-numbers-read-time-settled = settled _ _ _ (λ k a. tt) (λ k a z e p. p)
 
 pub numbers-judge-time-settled : Settled numbers-judge-time.Asked numbers-judge-time.Learnt
 numbers-judge-time-settled = settled _ _ _ (λ k a. tt) (λ k a z e p. p)

@@ -1,2 +1,1 @@
 pub mod EndCases
-pub mod NextCases

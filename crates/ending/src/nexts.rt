@@ -1,4 +1,4 @@
-// nextUpdate judged, without its seconds.
+// nextUpdate.
 use codec::Fit;
 use codec::Step;
 use spots::Spot;

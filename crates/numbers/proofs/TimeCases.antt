@@ -1,5 +1,5 @@
--- The cases of a time whose seconds nobody asks for: it is one, or not.
--- time-pass, time-fail. The cases of its seconds are in NumberCases.
+-- The cases of a time: it is one, or not.
+-- time-pass, time-fail. Those of a serial are in NumberCases.
 -- Assumes nothing.
 use Prim.Native.Nat.{ℕ, _+_, _-_}
 use mathlib.Core.Path.{_≡_, refl, sym, _∙_}

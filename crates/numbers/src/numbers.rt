@@ -1,12 +1,9 @@
-// Contents that are read as numbers.
-use crate::Stamp;
-use calendar::Time;
+// Contents that stand for numbers.
 use codec::Step;
 use spots::Spot;
 ghost use mathlib.Core.Path.{_≡_};
 ghost use Rattle.codec.specs.Views.{stepOf};
 ghost use Rattle.layout.specs.Kinds.{serial, time};
-ghost use Rattle.numbers.specs.Stamps.{stampOf};
 
 // A serial.
 pub fn read_serial(s: &[u8]) -> Step
@@ -26,25 +23,7 @@ pub fn read_serial(s: &[u8]) -> Step
     }
 }
 
-// A time, in seconds since 1970.
-pub fn read_time(s: &[u8]) -> Stamp
-    ensures { λ r. ⌜ r ≡ stampOf (time .dec (now (s .entry))) ⌝ }
-{
-    let spot = spots::expect(s, 0x18);
-    match spot {
-        Spot::Wrong(p) => Stamp::Wrong(p),
-        Spot::At { start, len } => {
-            let end = start + len;
-            let time = calendar::read_time(&s[start..end]);
-            match time {
-                Time::At(seconds) => Stamp::Read { seconds, next: end },
-                Time::No => Stamp::Wrong(0),
-            }
-        }
-    }
-}
-
-// A time, whose seconds nobody asks for.
+// A time.
 pub fn judge_time(s: &[u8]) -> Step
     ensures { λ r. ⌜ r ≡ stepOf (time .dec (now (s .entry))) ⌝ }
 {

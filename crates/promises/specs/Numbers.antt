@@ -1,6 +1,6 @@
 -- Document 01's number and values for each case of each enum that a public function answers with.
 -- Told, given, refusal, wrong; writtenTold, formedTold, outputTold; numberTold, timeTold, headerTold, stepTold, fitTold,
--- countTold, spotTold, codeTold, stampTold, nameTold, insideTold, tailTold, viewTold, coverTold; judgedTold, entryTold,
+-- countTold, spotTold, codeTold, nameTold, insideTold, tailTold, viewTold, coverTold; judgedTold, entryTold,
 -- freshnessTold, strangeTold, foundTold, openedTold; judged-told, freshness-told.
 -- A place where a reader gave up is no value of the document: such a case has the number 3 and nothing more. Those of a
 -- verdict are in answer: Verdict (kindOf, valuesOf, numberOf, statusOf). What the writers answer is in Buffers.
@@ -25,8 +25,6 @@ use Rattle.codec.specs.declared.Fit.{Fit}
 use Rattle.codec.specs.declared.Fit.the-variants as fit
 use Rattle.spots.specs.declared.Spot.{Spot}
 use Rattle.spots.specs.declared.Spot.the-variants as spot
-use Rattle.numbers.specs.declared.Stamp.{Stamp}
-use Rattle.numbers.specs.declared.Stamp.the-variants as stamp
 use Rattle.words.specs.declared.Code.{Code}
 use Rattle.words.specs.declared.Code.the-variants as code
 use Rattle.oids.specs.declared.Name.{Name}
@@ -140,11 +138,6 @@ spotTold (spot.Wrong p) = wrong
 abbrev pub codeTold : Code → Told
 codeTold (code.Read value next) = given (value ∷ next ∷ [])
 codeTold (code.Wrong p) = wrong
-
--- seconds since 1970, and the place after the element
-abbrev pub stampTold : Stamp → Told
-stampTold (stamp.Read seconds next) = given (seconds ∷ next ∷ [])
-stampTold (stamp.Wrong p) = wrong
 
 -- where an OID is, and how many octets the extension takes
 abbrev pub nameTold : Name → Told
