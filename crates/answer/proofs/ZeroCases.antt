@@ -5,23 +5,13 @@ use Prim.Native.Nat.{ℕ, _+_, _-_, _≤_}
 use native.Mathlib.Omega.{arith}
 use mathlib.Core.Path.{_≡_, refl, sym, ap, _∙_}
 use mathlib.Core.Bool.{Bool, true, false, cond, not}
-use mathlib.Core.List.{List, [], _∷_, _++_}
-use lib.Dec.{eqb}
+use mathlib.Core.List.{List}
 use lib.ListN.{length, take, drop, take-append-drop, length-drop}
 use lib.Seq.{take-all, take-take, take-add}
 use borrow.Author.Tests.{not-true, not-false}
 use Rattle.octets.specs.SameLaws.{impossible}
 use Rattle.answer.specs.Card.{allZero}
-
--- two parts
-zero-append : (a b : List ℕ) → allZero (a ++ b) ≡ cond (allZero a) (allZero b) false
-unfolding allZero
-zero-append [] b = refl
-zero-append (x ∷ a) b = go (eqb x 0) (zero-append a b)
-  where
-    go : (t : Bool) → allZero (a ++ b) ≡ cond (allZero a) (allZero b) false → cond t (allZero (a ++ b)) false ≡ cond (cond t (allZero a) false) (allZero b) false
-    go true h = h
-    go false h = refl
+use Rattle.answer.specs.CardLaws.{zero-append}
 
 first-true : (t u : Bool) → cond t u false ≡ true → t ≡ true
 first-true true u e = refl

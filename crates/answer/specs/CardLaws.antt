@@ -1,8 +1,9 @@
 -- Laws of cards: what the definitions say, part by part, and that cards that compare the same are one card.
--- zero-true, zero-replicate; field-exactly, field-form, field-same; same-hashes-true, same-hashes-refl;
--- same-card-true, same-card-refl.
+-- zero-true, zero-replicate, zero-append, zero-value; field-exactly, field-form, field-same; same-hashes-true,
+-- same-hashes-refl; same-card-true, same-card-refl.
 -- The definitions are in Card. Hashes have any length. Assumes nothing.
-use Prim.Native.Nat.{ℕ, zero, suc, _-_, _≤_}
+use Prim.Native.Nat.{ℕ, zero, suc, _+_, _-_, _^_, _≤_, _<_}
+use native.Mathlib.Nat.{zero-mul, zero-add}
 use native.Mathlib.Omega.{arith}
 use mathlib.Core.Logic.{_↔_}
 use mathlib.Core.Path.{_≡_, refl, sym, ap, ap₂, _∙_}
@@ -11,7 +12,9 @@ use mathlib.Core.List.{List, [], _∷_, _++_}
 use lib.Dec.{eqb, leb}
 use lib.ListN.{length, take, drop, replicate, take-append-drop, length-drop}
 use lib.Seq.{length-take-le}
-use borrow.Author.Tests.{eqb-true, leb-true, eq-eqb, le-leb}
+use borrow.Author.Tests.{eqb-true, leb-true, eq-eqb, ne-eqb, le-leb}
+use Rattle.octets.specs.Number.{valueOf}
+use Rattle.octets.specs.NumberLaws.{pow256-pos, value-low}
 use Rattle.octets.specs.Same.{sameOf}
 use Rattle.octets.specs.SameLaws.{impossible, same-true, same-refl}
 use Rattle.content.specs.Serial.{serialOk}
@@ -37,6 +40,26 @@ pub zero-replicate : (n : ℕ) → allZero (replicate n 0) ≡ true
 unfolding allZero
 zero-replicate zero = refl
 zero-replicate (suc n) = zero-replicate n
+
+-- of two parts
+pub zero-append : (a b : List ℕ) → allZero (a ++ b) ≡ cond (allZero a) (allZero b) false
+unfolding allZero
+zero-append [] b = refl
+zero-append (x ∷ a) b = go (eqb x 0) (zero-append a b)
+  where
+    go : (t : Bool) → allZero (a ++ b) ≡ cond (allZero a) (allZero b) false → cond t (allZero (a ++ b)) false ≡ cond (cond t (allZero a) false) (allZero b) false
+    go true h = h
+    go false h = refl
+
+-- octets are zeros exactly where their number is 0
+pub zero-value : (s : List ℕ) → eqb (valueOf s) 0 ≡ allZero s
+unfolding allZero valueOf
+zero-value [] = refl
+zero-value (zero ∷ s) = ap (λ (n : ℕ). eqb n 0) (ap (λ (n : ℕ). n + valueOf s) (zero-mul (256 ^ length s)) ∙ zero-add (valueOf s)) ∙ zero-value s
+zero-value (suc x ∷ s) =
+    let l : 256 ^ length s ≤ valueOf (suc x ∷ s) = value-low (suc x) s (omega arith) in
+    let o : 0 < 256 ^ length s = pow256-pos (length s) in
+    ne-eqb (valueOf (suc x ∷ s)) 0 (λ e. omega arith) ∙ sym (rw (ne-eqb (suc x) 0 (λ e. omega arith)))
 
 -- ---- a serial in its field
 

@@ -1,7 +1,7 @@
 -- The functions of include/desk.h, and the two under the check and the program: each meets its contract, and its contract tells
 -- what it returns and what it writes.
 -- desk-request, desk-refusal, desk-signed, desk-algorithm, desk-signature, desk-certificates, desk-check, desk-slip,
--- desk-entry, slip-for, each with -met and -tells; line-for's are in Writers.
+-- desk-entry, desk-cache-file, desk-cache-ask, slip-for, each with -met and -tells; line-for's are in Writers.
 -- What -met and -tells say, and Tells, are in Functions. In C a slice is a pointer and a length; here it is one of the arguments
 -- `a`, counted `a .0`, `a .1 .0`, `a .1 .1 .0`, and what is written is among the parameters at exit `e`, counted likewise.
 -- Assumes nothing.
@@ -18,6 +18,10 @@ use Rattle.slip.specs.Slip.{slipOf, readOf}
 use Rattle.question.specs.Asked.{asked}
 use Rattle.desk_c.specs.Places.{signedIn, algorithmIn, signatureIn, certificatesIn, entryNumber, entrySpan}
 use Rattle.desk_c.specs.Papers.{slipNumber, requestSize, requestIn}
+use Rattle.cache_rules.specs.Cache.{filedOf, bufferOf}
+use Rattle.cache_rules.specs.Numbers.{filedNumber, filedCount}
+use Rattle.cache_ask.specs.Found.{foundOf}
+use Rattle.desk_c.specs.Caches.{clockAt, foundNumber, foundSpan}
 use Rattle.desk_c.proofs.desk_request.Reads as desk-request
 use Rattle.desk_c.proofs.desk_request.Statement as desk-request-contract
 use Rattle.desk_c.proofs.desk_request.Met as desk-request-theorem
@@ -45,6 +49,12 @@ use Rattle.desk_c.proofs.desk_slip.Met as desk-slip-theorem
 use Rattle.desk_c.proofs.desk_entry.Reads as desk-entry
 use Rattle.desk_c.proofs.desk_entry.Statement as desk-entry-contract
 use Rattle.desk_c.proofs.desk_entry.Met as desk-entry-theorem
+use Rattle.desk_c.proofs.desk_cache_file.Reads as desk-cache-file
+use Rattle.desk_c.proofs.desk_cache_file.Statement as desk-cache-file-contract
+use Rattle.desk_c.proofs.desk_cache_file.Met as desk-cache-file-theorem
+use Rattle.desk_c.proofs.desk_cache_ask.Reads as desk-cache-ask
+use Rattle.desk_c.proofs.desk_cache_ask.Statement as desk-cache-ask-contract
+use Rattle.desk_c.proofs.desk_cache_ask.Met as desk-cache-ask-theorem
 use Rattle.deskcase.proofs.slip_for.Reads as slip-for
 use Rattle.deskcase.proofs.slip_for.Statement as slip-for-contract
 use Rattle.deskcase.proofs.slip_for.Met as slip-for-theorem
@@ -131,6 +141,26 @@ pub desk-entry-tells : Tells desk-entry.Learnt (λ k a z e.
     × (now (e .1 .1 .0) ≡ entrySpan (entryOf (now (a .0)) (a .1 .0)) .start)
     × (now (e .1 .1 .1 .0) ≡ entrySpan (entryOf (now (a .0)) (a .1 .0)) .len))
 desk-entry-tells k a z e p = (p .0, p .1 .0, p .1 .1)
+
+-- ── desk_cache_file(cache, slip, now, tolerance, places): the refusal or 0, the cache, and how many places are filled ──
+pub desk-cache-file-met : {M : Type 1} → desk-cache-file-contract.statement M
+desk-cache-file-met = desk-cache-file-theorem.met
+
+pub desk-cache-file-tells : Tells desk-cache-file.Learnt (λ k a z e.
+    (z ≡ filedNumber (filedOf (clockAt (a .1 .1 .0) (a .1 .1 .1 .0)) (now (a .0)) (now (a .1 .0))))
+    × (now (e .0) ≡ bufferOf (clockAt (a .1 .1 .0) (a .1 .1 .1 .0)) (now (a .0)) (now (a .1 .0)))
+    × (now (e .1 .1 .1 .1 .0) ≡ filedCount (filedOf (clockAt (a .1 .1 .0) (a .1 .1 .1 .0)) (now (a .0)) (now (a .1 .0)))))
+desk-cache-file-tells k a z e p = (p .0, p .1 .0, p .1 .1)
+
+-- ── desk_cache_ask(cache, card, now, tolerance, from, len): 0, the refusal or 256, and where the slip is ──
+pub desk-cache-ask-met : {M : Type 1} → desk-cache-ask-contract.statement M
+desk-cache-ask-met = desk-cache-ask-theorem.met
+
+pub desk-cache-ask-tells : Tells desk-cache-ask.Learnt (λ k a z e.
+    (z ≡ foundNumber (foundOf (clockAt (a .1 .1 .0) (a .1 .1 .1 .0)) (now (a .1 .0)) (now (a .0))))
+    × (now (e .1 .1 .1 .1 .0) ≡ foundSpan (now (a .0)) (foundOf (clockAt (a .1 .1 .0) (a .1 .1 .1 .0)) (now (a .1 .0)) (now (a .0))) .start)
+    × (now (e .1 .1 .1 .1 .1 .0) ≡ foundSpan (now (a .0)) (foundOf (clockAt (a .1 .1 .0) (a .1 .1 .1 .0)) (now (a .1 .0)) (now (a .0))) .len))
+desk-cache-ask-tells k a z e p = (p .0, p .1 .0, p .1 .1)
 
 -- ── deskcase::slip_for(question, response, slip): as desk_check ──
 pub slip-for-met : {M : Type 1} → slip-for-contract.statement M

@@ -9,4 +9,5 @@ pub mod SettledResponse
 pub mod SettledRuling
 pub mod SettledDesk
 pub mod SettledWalk
+pub mod SettledCache
 pub mod SettledC

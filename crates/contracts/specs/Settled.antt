@@ -2,7 +2,7 @@
 -- the lifetimes and the arguments; `Learnt`, what is known after it, of those, the result and the parameters at exit.
 -- Both are the contract's own clauses, as each crate passes them on for its functions.
 -- Settles, settles; Settled, settled. The functions, crate by crate, are in SettledOctets, SettledWords,
--- SettledResponse, SettledRuling, SettledDesk, SettledWalk and SettledC.
+-- SettledResponse, SettledRuling, SettledDesk, SettledWalk, SettledCache and SettledC.
 -- Assumes nothing.
 use mathlib.Core.Path.{_≡_, sym, _∙_}
 

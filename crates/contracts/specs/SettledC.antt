@@ -1,6 +1,6 @@
 -- Settled contracts of the functions for C.
 -- One theorem for each, desk-c-FUNCTION-settled; of what is written through a pointer, -buffer (of a part, where it starts; of
--- desk_refusal, the status) and -length say the same.
+-- desk_refusal, the status) and -length say the same; of desk_cache_file, -buffer is of the cache and -places of the count.
 -- What it is to be settled is in Settled. Assumes nothing.
 use denote.Ref.{now}
 use Rattle.contracts.specs.Settled.{Settled, settled, Settles, settles}
@@ -13,6 +13,8 @@ use Rattle.desk_c.proofs.desk_algorithm.Reads as desk-c-desk-algorithm
 use Rattle.desk_c.proofs.desk_signature.Reads as desk-c-desk-signature
 use Rattle.desk_c.proofs.desk_certificates.Reads as desk-c-desk-certificates
 use Rattle.desk_c.proofs.desk_entry.Reads as desk-c-desk-entry
+use Rattle.desk_c.proofs.desk_cache_file.Reads as desk-c-desk-cache-file
+use Rattle.desk_c.proofs.desk_cache_ask.Reads as desk-c-desk-cache-ask
 
 -- ── the check, slips and requests ──
 pub desk-c-desk-check-settled : Settled desk-c-desk-check.Asked desk-c-desk-check.Learnt
@@ -82,3 +84,22 @@ desk-c-desk-entry-buffer = settles _ _ (λ k z e. now (e .1 .1 .0)) _ (λ k a. t
 
 pub desk-c-desk-entry-length : Settles desk-c-desk-entry.Asked desk-c-desk-entry.Learnt (λ k z e. now (e .1 .1 .1 .0))
 desk-c-desk-entry-length = settles _ _ (λ k z e. now (e .1 .1 .1 .0)) _ (λ k a. tt) (λ k a z e p. p .1 .1)
+
+-- ── the room's cache ──
+pub desk-c-desk-cache-file-settled : Settled desk-c-desk-cache-file.Asked desk-c-desk-cache-file.Learnt
+desk-c-desk-cache-file-settled = settled _ _ _ (λ k a. tt) (λ k a z e p. p .0)
+
+pub desk-c-desk-cache-file-buffer : Settles desk-c-desk-cache-file.Asked desk-c-desk-cache-file.Learnt (λ k z e. now (e .0))
+desk-c-desk-cache-file-buffer = settles _ _ (λ k z e. now (e .0)) _ (λ k a. tt) (λ k a z e p. p .1 .0)
+
+pub desk-c-desk-cache-file-places : Settles desk-c-desk-cache-file.Asked desk-c-desk-cache-file.Learnt (λ k z e. now (e .1 .1 .1 .1 .0))
+desk-c-desk-cache-file-places = settles _ _ (λ k z e. now (e .1 .1 .1 .1 .0)) _ (λ k a. tt) (λ k a z e p. p .1 .1)
+
+pub desk-c-desk-cache-ask-settled : Settled desk-c-desk-cache-ask.Asked desk-c-desk-cache-ask.Learnt
+desk-c-desk-cache-ask-settled = settled _ _ _ (λ k a. tt) (λ k a z e p. p .0)
+
+pub desk-c-desk-cache-ask-buffer : Settles desk-c-desk-cache-ask.Asked desk-c-desk-cache-ask.Learnt (λ k z e. now (e .1 .1 .1 .1 .0))
+desk-c-desk-cache-ask-buffer = settles _ _ (λ k z e. now (e .1 .1 .1 .1 .0)) _ (λ k a. tt) (λ k a z e p. p .1 .0)
+
+pub desk-c-desk-cache-ask-length : Settles desk-c-desk-cache-ask.Asked desk-c-desk-cache-ask.Learnt (λ k z e. now (e .1 .1 .1 .1 .1 .0))
+desk-c-desk-cache-ask-length = settles _ _ (λ k z e. now (e .1 .1 .1 .1 .1 .0)) _ (λ k a. tt) (λ k a z e p. p .1 .1)

@@ -15,6 +15,8 @@ use Rattle.slip.proofs.has_card.Reads as slip-has-card
 use Rattle.slip.proofs.size_of.Reads as slip-size-of
 use Rattle.slip.proofs.slip_size.Reads as slip-slip-size
 use Rattle.slip.proofs.slip_fits.Reads as slip-slip-fits
+use Rattle.slip.proofs.times_fit.Reads as slip-times-fit
+use Rattle.slip.proofs.reason_fits.Reads as slip-reason-fits
 use Rattle.slip_write.proofs.write_slip.Reads as slip-write-write-slip
 use Rattle.slip_write.proofs.write_unjudged.Reads as slip-write-write-unjudged
 use Rattle.slip_read.proofs.read_slip.Reads as slip-read-read-slip
@@ -57,6 +59,12 @@ slip-size-of-settled = settled _ _ _ (λ k a. tt) (λ k a z e p. p)
 
 pub slip-slip-size-settled : Settled slip-slip-size.Asked slip-slip-size.Learnt
 slip-slip-size-settled = settled _ _ _ (λ k a. tt) (λ k a z e p. p)
+
+pub slip-times-fit-settled : Settled slip-times-fit.Asked slip-times-fit.Learnt
+slip-times-fit-settled = settled _ _ _ (λ k a. tt) (λ k a z e p. p)
+
+pub slip-reason-fits-settled : Settled slip-reason-fits.Asked slip-reason-fits.Learnt
+slip-reason-fits-settled = settled _ _ _ (λ k a. tt) (λ k a z e p. p)
 
 pub slip-slip-fits-settled : Settled slip-slip-fits.Asked slip-slip-fits.Learnt
 slip-slip-fits-settled = settled _ _ _ (λ k a. tt) (λ k a z e p. p)

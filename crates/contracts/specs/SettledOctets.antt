@@ -21,6 +21,7 @@ use Rattle.calendar.proofs.read_time.Reads as calendar-read-time
 use Rattle.calendar.proofs.seconds_of.Reads as calendar-seconds-of
 use Rattle.calendar.proofs.time_fits.Reads as calendar-time-fits
 use Rattle.freshness.proofs.judge_times.Reads as freshness-judge-times
+use Rattle.freshness.proofs.clock_fits.Reads as freshness-clock-fits
 
 -- ── crate octets ──
 pub octets-same-settled : Settled octets-same.Asked octets-same.Learnt
@@ -83,3 +84,6 @@ calendar-time-fits-settled = settled _ _ _ (λ k a. tt) (λ k a z e p. p)
 -- ── crate freshness ──
 pub freshness-judge-times-settled : Settled freshness-judge-times.Asked freshness-judge-times.Learnt
 freshness-judge-times-settled = settled _ _ _ (λ k a. tt) (λ k a z e p. p)
+
+pub freshness-clock-fits-settled : Settled freshness-clock-fits.Asked freshness-clock-fits.Learnt
+freshness-clock-fits-settled = settled _ _ _ (λ k a. tt) (λ k a z e p. p)

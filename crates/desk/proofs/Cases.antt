@@ -1,53 +1,25 @@
--- What the program knows at each turn and return of its reading, and of the line that it writes.
--- came-more; went-on, ended; end-counted, says-end, says-more, says-failed; line-inside, line-counted.
+-- What the program knows of the line that it writes. What it knows of its reading is in crate intake (ReadLaws).
+-- says-end, says-more, says-failed; line-inside, line-counted.
 -- Assumes nothing.
-use Prim.Native.Nat.{ℕ, _≤_, _<_}
-use native.Mathlib.Omega.{arith}
+use Prim.Native.Nat.{ℕ, _≤_}
 use mathlib.Core.Path.{_≡_, sym, ap, subst, _∙_}
 use mathlib.Core.Bool.{cond}
-use mathlib.Core.List.{List, [], _++_}
+use mathlib.Core.List.{List, []}
 use lib.Dec.{ltb}
 use lib.ListN.{length, take}
 use lib.Seq.{length-take-le}
 use Rattle.octets.specs.Buffer.{putIn}
 use Rattle.question.specs.Line.{lineOf}
 use Rattle.deskline.specs.LineLaws as line
-use Rattle.intake.specs.Kept.{keptWith, keptIn, Holds}
+use Rattle.intake.specs.Kept.{Holds}
 use Rattle.intake.specs.Room.{roomLeast}
-use Rattle.intake.specs.KeptLaws.{holds-inside, holds-next}
+use Rattle.intake.specs.Read.{ReadAs, Read}
 use Rattle.intake.specs.SameLineLaws.{kept-same-line}
-use Rattle.desk.specs.declared.Input.{Input}
-use Rattle.desk.specs.declared.Input.the-variants.{More, End, Failed}
-use Rattle.desk.specs.Input.{Onward, ReadAs, Read, Says}
-
--- ---- reading
-
--- a read that brought octets: the space holds them after what it held
-module _ (before : List ℕ) (done : ℕ) (chunk : List ℕ) (n : ℕ) {after : List ℕ} {next : ℕ} where
-  pub came-more : (n ≡ 0 → ⊥) → n ≡ length (take n chunk) → next ≡ length (keptWith before done (take n chunk))
-      → after ≡ keptIn before done (take n chunk) → Onward before done after (More next)
-  came-more some e r o l h = (take n chunk, omega arith, holds-next before done l h (take n chunk) after next r o)
-
-module _ (before : List ℕ) (done : ℕ) (after : List ℕ) (n : ℕ) (input : Input) (o : Onward before done after input) where
-  -- a turn that read more: the space holds an input again
-  pub went-on : input ≡ More n → (l : List ℕ) × Holds before done l → (l : List ℕ) × Holds after n l
-  went-on e (l, h) =
-      let (came, some, holds) = subst (λ (i : Input). Onward before done after i) e o l h in
-      (l ++ came, holds)
-
-  -- the end: the space holds the input
-  pub ended : input ≡ End n → (l : List ℕ) × Holds before done l → Read after (End n)
-  ended e (l, h) = (l, subst (λ (i : Input). Onward before done after i) e o l h)
+use Rattle.intake.specs.declared.Input.{Input}
+use Rattle.intake.specs.declared.Input.the-variants.{More, End, Failed}
+use Rattle.desk.specs.Input.{Says}
 
 -- ---- the line
-
-module _ (space : List ℕ) (input : Input) (n : ℕ) (r : Read space input) (e : input ≡ End n) where
-  -- the octets that are kept are in the space
-  pub end-counted : n ≡ length (take n space)
-  end-counted =
-      let (l, h) = r in
-      let k : Holds space n l = subst (λ (i : Input). ReadAs space i l) e h in
-      sym (length-take-le n space (holds-inside space n l k))
 
 -- the line of what is written: of the octets l
 abbrev Line : List ℕ → List ℕ → ℕ → List ℕ → Type 0

@@ -8,19 +8,14 @@
 // No contract says which octets the operating system hands over, or what becomes of those that are
 // written: that a read puts them at the start of the chunk, in order, and answers 0 only at the end of
 // the input, is assumed.
+use intake::Input;
 use libc::STDIN_FILENO;
 use libc::STDOUT_FILENO;
 ghost use Prim.Native.Nat.{_≤_};
 ghost use lib.ListN.{length};
 ghost use Rattle.intake.specs.Room.{roomLeast};
-ghost use Rattle.desk.specs.Input.{Onward, Read, Says};
-
-// What came of reading: how many octets are kept in the space, and whether there may be more.
-enum Input {
-    More(usize),
-    End(usize),
-    Failed,
-}
+ghost use Rattle.intake.specs.Read.{Onward, Read};
+ghost use Rattle.desk.specs.Input.{Says};
 
 // Reads once more, and keeps what came after the octets that are kept.
 fn read_more(space: &mut [u8], done: usize) -> Input

@@ -3,4 +3,8 @@ pub mod PlacesLaws
 pub mod EntryLaws
 pub mod Papers
 pub mod PapersLaws
+pub mod Caches
+pub mod FindLaws
+pub mod ToldLaws
+pub mod CachesLaws
 pub mod Examples

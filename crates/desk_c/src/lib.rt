@@ -2,9 +2,12 @@
 // and a length there.
 //
 // No function here has a requirement beyond what its types say, keeps state or allocates.
+mod caches; // the room's cache
 mod papers; // the check, requests, slips
 mod shown; // a response's refusal and its parts
 
+pub use caches::desk_cache_ask;
+pub use caches::desk_cache_file;
 pub use papers::desk_check;
 pub use papers::desk_request;
 pub use papers::desk_slip;

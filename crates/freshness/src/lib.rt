@@ -1,10 +1,17 @@
 // Whether an answer counts at a time (document 01, refusals 13 to 16): from its thisUpdate to its
 // nextUpdate plus a tolerance, both included.
 //
-// The function takes any numbers and has no requirement. It is the one place where times are
-// compared.
+// The functions take any numbers and have no requirement. Here alone an answer's times are judged.
 ghost use mathlib.Core.Path.{_≡_};
+ghost use Rattle.freshness.specs.Clock.{clockOk};
 ghost use Rattle.freshness.specs.Fresh.{freshOf};
+
+// When it is: the time now, in seconds since 1970, and how many seconds past its nextUpdate an answer
+// still counts.
+pub struct Clock {
+    pub now: u64,
+    pub tolerance: u64,
+}
 
 // An entry's nextUpdate.
 pub enum Next {
@@ -51,4 +58,14 @@ pub fn judge_times(this: u64, next: Next, now: u64, tolerance: u64) -> Freshness
         return Freshness::Late(missed);
     }
     Freshness::Fresh
+}
+
+// Whether a time and a tolerance are in range (document 01, refusal 1).
+pub fn clock_fits(clock: Clock) -> bool
+    ensures { λ r. ⌜ r ≡ clockOk clock ⌝ }
+{
+    if 253402300799 < clock.now {
+        return false;
+    }
+    clock.tolerance <= 3600
 }

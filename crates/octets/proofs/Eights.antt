@@ -1,5 +1,5 @@
 -- Eight octets at a place as one number, and two lists compared by such numbers.
--- eight-is; eights-next, eights-differ, eights-end.
+-- weights, eight-low, eight-high; eight-past, eight-short, eight-is; eights-next, eights-differ, eights-end.
 -- Assumes nothing.
 use Prim.Native.Nat.{ℕ, zero, suc, _+_, _-_, _*_, _≤_, _<_}
 use native.Mathlib.Nat.{add-zero}
@@ -14,35 +14,43 @@ use mir.Val.{Fits}
 use borrow.Author.Tests.{eq-eqb}
 use Rattle.octets.specs.Octets.{Octets}
 use Rattle.octets.specs.OctetsLaws.{octets-from, octets-take, octets-drop}
-use Rattle.octets.specs.Number.{lowFirst}
+use Rattle.octets.specs.Number.{valueOf, numberAt, lowFirst}
+use Rattle.octets.specs.NumberLaws.{number-outside, number-inside}
+use Rattle.octets.specs.declared.Number.the-variants.{Is, Outside}
 use Rattle.octets.specs.Same.{sameOf}
 use Rattle.octets.specs.SameLaws.{same-true, same-refl}
 
 -- ---- the number
 
--- eight octets, each with its weight
-weights : (t : List ℕ) → 8 ≤ length t
-    → getD t 0 0 + getD t 1 0 * 256 + getD t 2 0 * 65536 + getD t 3 0 * 16777216
-    + (getD t 4 0 * 4294967296 + getD t 5 0 * 1099511627776 + getD t 6 0 * 281474976710656 + getD t 7 0 * 72057594037927936)
-    ≡ lowFirst (take 8 t)
+-- each octet with its weight
+pub weights : (a b c d e f g h : ℕ)
+    → a + b * 256 + c * 65536 + d * 16777216 + (e + f * 256 + g * 65536 + h * 16777216) * 4294967296
+    ≡ lowFirst (a ∷ b ∷ c ∷ d ∷ e ∷ f ∷ g ∷ h ∷ [])
 unfolding lowFirst
-weights [] l = absurd (omega arith)
-weights (a ∷ []) l = absurd (omega arith)
-weights (a ∷ b ∷ []) l = absurd (omega arith)
-weights (a ∷ b ∷ c ∷ []) l = absurd (omega arith)
-weights (a ∷ b ∷ c ∷ d ∷ []) l = absurd (omega arith)
-weights (a ∷ b ∷ c ∷ d ∷ e ∷ []) l = absurd (omega arith)
-weights (a ∷ b ∷ c ∷ d ∷ e ∷ f ∷ []) l = absurd (omega arith)
-weights (a ∷ b ∷ c ∷ d ∷ e ∷ f ∷ g ∷ []) l = absurd (omega arith)
-weights (a ∷ b ∷ c ∷ d ∷ e ∷ f ∷ g ∷ h ∷ r) l = omega arith
+weights a b c d e f g h = omega arith
 
-module _ (s : List ℕ) (at : ℕ) where
-  -- the same at a place
-  pub eight-is : at + 8 ≤ length s
-      → getD s at 0 + getD s (at + 1) 0 * 256 + getD s (at + 2) 0 * 65536 + getD s (at + 3) 0 * 16777216
-      + (getD s (at + 4) 0 * 4294967296 + getD s (at + 5) 0 * 1099511627776 + getD s (at + 6) 0 * 281474976710656 + getD s (at + 7) 0 * 72057594037927936)
-      ≡ lowFirst (take 8 (drop at s))
-  eight-is h =
+-- the same octets, the high one first
+turned : (a b c d e f g h : ℕ) → lowFirst (h ∷ g ∷ f ∷ e ∷ d ∷ c ∷ b ∷ a ∷ []) ≡ valueOf (a ∷ b ∷ c ∷ d ∷ e ∷ f ∷ g ∷ h ∷ [])
+unfolding lowFirst valueOf
+turned a b c d e f g h = omega arith
+
+first-eight : (t : List ℕ) → 8 ≤ length t
+    → getD t 0 0 ∷ getD t 1 0 ∷ getD t 2 0 ∷ getD t 3 0 ∷ getD t 4 0 ∷ getD t 5 0 ∷ getD t 6 0 ∷ getD t 7 0 ∷ [] ≡ take 8 t
+first-eight [] l = absurd (omega arith)
+first-eight (a ∷ []) l = absurd (omega arith)
+first-eight (a ∷ b ∷ []) l = absurd (omega arith)
+first-eight (a ∷ b ∷ c ∷ []) l = absurd (omega arith)
+first-eight (a ∷ b ∷ c ∷ d ∷ []) l = absurd (omega arith)
+first-eight (a ∷ b ∷ c ∷ d ∷ e ∷ []) l = absurd (omega arith)
+first-eight (a ∷ b ∷ c ∷ d ∷ e ∷ f ∷ []) l = absurd (omega arith)
+first-eight (a ∷ b ∷ c ∷ d ∷ e ∷ f ∷ g ∷ []) l = absurd (omega arith)
+first-eight (a ∷ b ∷ c ∷ d ∷ e ∷ f ∷ g ∷ h ∷ r) l = refl
+
+module _ (s : List ℕ) (at : ℕ) (h : at + 8 ≤ length s) where
+  -- the eight octets at a place
+  eight-there : getD s at 0 ∷ getD s (at + 1) 0 ∷ getD s (at + 2) 0 ∷ getD s (at + 3) 0 ∷ getD s (at + 4) 0 ∷ getD s (at + 5) 0 ∷ getD s (at + 6) 0 ∷ getD s (at + 7) 0 ∷ []
+      ≡ take 8 (drop at s)
+  eight-there =
       let first : getD (drop at s) 0 0 ≡ getD s at 0 = getD-drop at s 0 0 ∙ ap (λ (k : ℕ). getD s k 0) (add-zero at) in
       rw (
         ← first,
@@ -53,7 +61,31 @@ module _ (s : List ℕ) (at : ℕ) where
         ← getD-drop at s 5 0,
         ← getD-drop at s 6 0,
         ← getD-drop at s 7 0,
-      ) (weights (drop at s) (omega (arith, length-drop at s)))
+      ) (first-eight (drop at s) (omega (arith, length-drop at s)))
+
+  pub eight-low : (r : ℕ)
+      → r ≡ lowFirst (getD s at 0 ∷ getD s (at + 1) 0 ∷ getD s (at + 2) 0 ∷ getD s (at + 3) 0 ∷ getD s (at + 4) 0 ∷ getD s (at + 5) 0 ∷ getD s (at + 6) 0 ∷ getD s (at + 7) 0 ∷ [])
+      → r ≡ lowFirst (take 8 (drop at s))
+  eight-low r e = e ∙ ap lowFirst eight-there
+
+  pub eight-high : (r : ℕ)
+      → r ≡ lowFirst (getD s (at + 7) 0 ∷ getD s (at + 6) 0 ∷ getD s (at + 5) 0 ∷ getD s (at + 4) 0 ∷ getD s (at + 3) 0 ∷ getD s (at + 2) 0 ∷ getD s (at + 1) 0 ∷ getD s at 0 ∷ [])
+      → r ≡ valueOf (take 8 (drop at s))
+  eight-high r e =
+      e
+      ∙ turned (getD s at 0) (getD s (at + 1) 0) (getD s (at + 2) 0) (getD s (at + 3) 0) (getD s (at + 4) 0) (getD s (at + 5) 0) (getD s (at + 6) 0) (getD s (at + 7) 0)
+      ∙ ap valueOf eight-there
+
+-- a number of eight octets, as code knows it
+module _ (s : List ℕ) (at w : ℕ) (e : w ≡ 8) where
+  pub eight-past : length s < at → Outside ≡ numberAt s at w
+  eight-past h = sym (number-outside s at w (omega arith))
+
+  pub eight-short : length s - at < 8 → Outside ≡ numberAt s at w
+  eight-short h = sym (number-outside s at w (omega arith))
+
+  pub eight-is : at ≤ length s → 8 ≤ length s - at → (n : ℕ) → n ≡ valueOf (take 8 (drop at s)) → Is n ≡ numberAt s at w
+  eight-is h g n q = ap Is (q ∙ ap (λ (k : ℕ). valueOf (take k (drop at s))) (sym e)) ∙ sym (number-inside s at w (omega arith) (omega arith))
 
 -- ---- two lists compared
 

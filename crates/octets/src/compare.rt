@@ -1,27 +1,26 @@
 // Octets compared.
+use crate::weights;
 ghost use mathlib.Core.Path.{_≡_};
 ghost use Prim.Native.Nat.{_+_, _≤_};
 ghost use lib.ListN.{length, take, drop};
 ghost use Rattle.octets.specs.Number.{lowFirst};
 ghost use Rattle.octets.specs.Same.{sameOf};
 
-// The number of the eight octets at a place, the low octet first. In this form the compiler reads them
-// at once.
+// The number of the eight octets at a place, the low octet first.
 fn eight(s: &[u8], at: usize) -> u64
     requires { ⌜ at + 8 ≤ length (now s) ⌝ }
     ensures { λ r. ⌜ r ≡ lowFirst (take 8 (drop at (now (s .entry)))) ⌝ }
 {
-    let a = s[at] as u64;
-    let b = s[at + 1] as u64 * 0x100;
-    let c = s[at + 2] as u64 * 0x1_0000;
-    let d = s[at + 3] as u64 * 0x100_0000;
-    let e = s[at + 4] as u64 * 0x1_0000_0000;
-    let f = s[at + 5] as u64 * 0x100_0000_0000;
-    let g = s[at + 6] as u64 * 0x1_0000_0000_0000;
-    let h = s[at + 7] as u64 * 0x100_0000_0000_0000;
-    let low = a + b + c + d;
-    let high = e + f + g + h;
-    low + high
+    weights::weigh(
+        s[at],
+        s[at + 1],
+        s[at + 2],
+        s[at + 3],
+        s[at + 4],
+        s[at + 5],
+        s[at + 6],
+        s[at + 7],
+    )
 }
 
 // The same one by one: of two lists that are as long.

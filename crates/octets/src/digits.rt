@@ -1,13 +1,32 @@
 // Numbers with the high octet first.
 use crate::Number;
 use crate::Written;
+use crate::weights;
 ghost use mathlib.Core.Path.{_≡_};
-ghost use lib.ListN.{length};
-ghost use Rattle.octets.specs.Number.{numberAt, octetsOf};
+ghost use Prim.Native.Nat.{_+_, _≤_};
+ghost use lib.ListN.{length, take, drop};
+ghost use Rattle.octets.specs.Number.{valueOf, numberAt, octetsOf};
 ghost use Rattle.octets.specs.Buffer.{putIn, putAnswer};
 
-// The number of the width octets at a place: at most eight, and inside s.
-pub fn number_at(s: &[u8], at: usize, width: usize) -> Number
+// The number of the eight octets at a place, the high octet first.
+fn eight(s: &[u8], at: usize) -> u64
+    requires { ⌜ at + 8 ≤ length (now s) ⌝ }
+    ensures { λ r. ⌜ r ≡ valueOf (take 8 (drop at (now (s .entry)))) ⌝ }
+{
+    weights::weigh(
+        s[at + 7],
+        s[at + 6],
+        s[at + 5],
+        s[at + 4],
+        s[at + 3],
+        s[at + 2],
+        s[at + 1],
+        s[at],
+    )
+}
+
+// The number of the width octets at a place, one by one: at most eight, and inside s.
+fn number_few(s: &[u8], at: usize, width: usize) -> Number
     ensures { λ r. ⌜ r ≡ numberAt (now (s .entry)) at width ⌝ }
 {
     if 8 < width {
@@ -25,6 +44,23 @@ pub fn number_at(s: &[u8], at: usize, width: usize) -> Number
         n = n * 256 + s[at + i] as u64;
         i += 1;
     }
+    Number::Is(n)
+}
+
+// The number of the width octets at a place: at most eight, and inside s.
+pub fn number_at(s: &[u8], at: usize, width: usize) -> Number
+    ensures { λ r. ⌜ r ≡ numberAt (now (s .entry)) at width ⌝ }
+{
+    if width != 8 {
+        return number_few(s, at, width);
+    }
+    if s.len() < at {
+        return Number::Outside;
+    }
+    if s.len() - at < 8 {
+        return Number::Outside;
+    }
+    let n = eight(s, at);
     Number::Is(n)
 }
 

@@ -6,6 +6,7 @@
 mod compare; // two lists compared
 mod digits; // numbers read and written
 mod place; // octets written at a place of a buffer
+mod weights; // eight octets as one number
 
 pub use compare::same;
 pub use compare::same20;

@@ -14,5 +14,13 @@ pub mod Slips
 pub mod Walk
 pub mod Desk
 pub mod ForC
+pub mod CacheForm
+pub mod CacheAsk
+pub mod CacheRefusals
+pub mod CacheFile
+pub mod CacheOthers
+pub mod CacheCheck
+pub mod CacheDepositor
+pub mod CacheTold
 pub mod Claims
 pub mod Marked

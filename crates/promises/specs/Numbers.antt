@@ -3,7 +3,8 @@
 -- countTold, spotTold, codeTold, nameTold, insideTold, tailTold, viewTold, coverTold; judgedTold, entryTold,
 -- freshnessTold, strangeTold, foundTold, openedTold; judged-told, freshness-told.
 -- A place where a reader gave up is no value of the document: such a case has the number 3 and nothing more. Those of a
--- verdict are in answer: Verdict (kindOf, valuesOf, numberOf, statusOf). What the writers answer is in Buffers.
+-- verdict are in answer: Verdict (kindOf, valuesOf, numberOf, statusOf), those of filing and asking in cache_rules:
+-- Numbers. What the writers answer is in Buffers.
 -- Assumes nothing.
 use Prim.Native.Nat.{ℕ}
 use mathlib.Core.Path.{_≡_, refl}

@@ -5,6 +5,7 @@
 //   Answers, Refusals      good, revoked and unknown exactly when; each refusal exactly when; nothing old
 //   OneCard                nothing about another card
 //   Shown, Requests, Slips, Walk, Desk     the signed part; what is written; the walk; the program's line
+//   CacheForm, CacheAsk, CacheRefusals, CacheFile, CacheOthers, CacheCheck, CacheDepositor   the room's cache
 //   Claims, Marked         M1 to M12, one theorem over a list of them
 //
 // That the code meets its contracts, and that every public contract settles its result and its buffers,

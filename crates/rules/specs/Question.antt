@@ -6,6 +6,7 @@ use mathlib.Core.Bool.{Bool, _&&_}
 use mathlib.Core.List.{List}
 use lib.Dec.{leb}
 use lib.ListN.{length}
+use Rattle.freshness.specs.Clock.{nowOk, toleranceOk}
 use Rattle.answer.specs.Card.{cardOk}
 use Rattle.rules.specs.declared.Question.{Question}
 
@@ -14,8 +15,8 @@ use Rattle.rules.specs.declared.Question.{Question}
 unfoldable pub inRange : Question → List ℕ → Bool
 inRange q name =
     cardOk (q .card)
-    && leb (q .now) 253402300799
-    && leb (q .tolerance) 3600
+    && nowOk (q .now)
+    && toleranceOk (q .tolerance)
     && leb (q .verdict) 2
     && leb 1 (q .role) && leb (q .role) 3
     && leb (q .marks) 7

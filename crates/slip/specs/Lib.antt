@@ -8,4 +8,5 @@ pub mod Slip
 pub mod CardOctetsLaws
 pub mod BodyLaws
 pub mod SlipLaws
+pub mod PlaceLaws
 pub mod Examples

@@ -10,7 +10,7 @@ ghost use Rattle.answer.specs.declared.Verdict.the-variants.{Revoked, Refused};
 ghost use Rattle.slip.specs.Slip.{cardFits, slipOk};
 
 // Whether thisUpdate is not after nextUpdate, and nextUpdate is a time.
-fn times_fit(this: u64, next: u64) -> bool
+pub fn times_fit(this: u64, next: u64) -> bool
     ensures { λ r. ⌜ r ≡ timesOk this next ⌝ }
 {
     if next < this {
@@ -20,7 +20,7 @@ fn times_fit(this: u64, next: u64) -> bool
 }
 
 // Whether a reason is 0 to 10 but not 7, or absent.
-fn reason_fits(reason: Reason) -> bool
+pub fn reason_fits(reason: Reason) -> bool
     ensures { λ r. ⌜ r ≡ reasonOk reason ⌝ }
 {
     match reason {

@@ -2,16 +2,12 @@
 -- reason-none, reason-some; good-said, unknown-said, revoked-said, refusal-said; body-good, body-revoked, body-unknown,
 -- body-refusal; said-good, said-revoked, said-unknown, said-refusal, said-none; under-card, under-empty.
 -- Assumes nothing.
-use Prim.Native.Nat.{ℕ, _≤_, _<_}
-use native.Mathlib.Omega.{arith}
+use Prim.Native.Nat.{ℕ, _≤_}
 use mathlib.Core.Path.{_≡_, sym, ap, ap₂, subst, _∙_}
 use mathlib.Core.Bool.{Bool, true, false}
 use mathlib.Core.List.{List}
-use lib.Dec.{lit≤}
-use lib.ListN.{length, getD, take, drop}
-use lib.Seq.{drop-cons, drop-drop}
+use lib.ListN.{length, getD}
 use borrow.Author.Tests.{eq-eqb, ne-eqb}
-use Rattle.octets.specs.Number.{valueOf}
 use Rattle.answer.specs.declared.Card.{Card}
 use Rattle.answer.specs.declared.Reason.{Reason}
 use Rattle.answer.specs.declared.Reason.the-variants.{Given, Absent}
@@ -19,11 +15,11 @@ use Rattle.answer.specs.declared.Verdict.{Verdict}
 use Rattle.answer.specs.declared.Verdict.the-variants.{Good, Revoked, Unknown, Refused}
 use Rattle.answer.specs.Card.{emptyCard}
 use Rattle.fields.specs.Field.{valueAt, cardIn}
-use Rattle.fields.specs.FieldLaws.{value-there}
-use Rattle.slip.specs.Numbers.{total, numbersIn}
+use Rattle.slip.specs.Numbers.{total}
 use Rattle.slip.specs.Table.{Row, reasonFrom, goodRow, revokedRow, unknownRow, refusalRow, rowOf, bodySize}
 use Rattle.slip.specs.TableLaws.{row-good, row-revoked, row-unknown, row-refusal, row-none}
 use Rattle.slip.specs.Slip.{verdictIn, cardUnder}
+use Rattle.slip.specs.PlaceLaws.{good-at, unknown-at, revoked-at, refusal-at}
 
 -- ---- a reason
 
@@ -37,50 +33,20 @@ reason-some n h = sym (rw (ne-eqb n 255 h))
 
 -- ---- the numbers of a body
 
--- a number of one octet
-one-octet : (s : List ℕ) (i : ℕ) → i < length s → valueOf (take 1 (drop i s)) ≡ getD s i 0
-unfolding valueOf
-one-octet s i h = rw (drop-cons s i 0 h) (omega arith)
-
 module _ (s : List ℕ) where
-  -- each number after the one before
-  second : drop 8 (drop 61 s) ≡ drop 69 s
-  second = drop-drop 8 61 s
-
-  third : drop 8 (drop 8 (drop 61 s)) ≡ drop 77 s
-  third = ap (drop 8) second ∙ drop-drop 8 69 s
-
-  fourth : drop 8 (drop 8 (drop 8 (drop 61 s))) ≡ drop 85 s
-  fourth = ap (drop 8) third ∙ drop-drop 8 77 s
-
   module _ (this next : ℕ) (p : this ≡ valueAt s 61 8) (q : next ≡ valueAt s 69 8) where
-    this-is : 69 ≤ length s → this ≡ valueOf (take 8 (drop 61 s))
-    this-is l = p ∙ value-there s 61 8 (lit≤ tt) l
-
-    next-is : 77 ≤ length s → next ≡ valueOf (take 8 (drop 8 (drop 61 s)))
-    next-is l = q ∙ value-there s 69 8 (lit≤ tt) l ∙ sym (ap (λ (t : List ℕ). valueOf (take 8 t)) second)
-
     pub good-said : 77 ≤ length s → Good this next ≡ verdictIn 20 goodRow s
-    unfolding verdictIn numbersIn
-    good-said l = ap₂ Good (this-is (omega arith)) (next-is l)
+    good-said l = ap₂ Good p q ∙ sym (good-at s l)
 
     pub unknown-said : 77 ≤ length s → Unknown this next ≡ verdictIn 20 unknownRow s
-    unfolding verdictIn numbersIn
-    unknown-said l = ap₂ Unknown (this-is (omega arith)) (next-is l)
+    unknown-said l = ap₂ Unknown p q ∙ sym (unknown-at s l)
 
     pub revoked-said : (at : ℕ) → at ≡ valueAt s 77 8 → (reason : Reason) → reason ≡ reasonFrom (getD s 85 0) → 86 ≤ length s
         → Revoked this next at reason ≡ verdictIn 20 revokedRow s
-    unfolding verdictIn numbersIn
-    revoked-said at r reason e l =
-        let a : at ≡ valueOf (take 8 (drop 8 (drop 8 (drop 61 s)))) =
-        r ∙ value-there s 77 8 (lit≤ tt) (omega arith) ∙ sym (ap (λ (t : List ℕ). valueOf (take 8 t)) third) in
-        let b : reason ≡ reasonFrom (valueOf (take 1 (drop 8 (drop 8 (drop 8 (drop 61 s)))))) =
-        e ∙ ap reasonFrom (sym (ap (λ (t : List ℕ). valueOf (take 1 t)) fourth ∙ one-octet s 85 (omega arith))) in
-        λ i. Revoked (this-is (omega arith) i) (next-is (omega arith) i) (a i) (b i)
+    revoked-said at r reason e l = (λ i. Revoked (p i) (q i) (r i) (e i)) ∙ sym (revoked-at s l)
 
   pub refusal-said : 2 ≤ length s → Refused (getD s 0 0) (getD s 1 0) ≡ verdictIn 20 refusalRow s
-  unfolding verdictIn numbersIn
-  refusal-said l = ap₂ Refused (sym (one-octet s 0 (omega arith))) (sym (one-octet s 1 (omega arith)))
+  refusal-said l = sym (refusal-at s l)
 
   -- ---- by the kind
 

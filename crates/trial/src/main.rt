@@ -3,6 +3,7 @@
 // the cases and their lines are.
 mod papers; // requests and slips
 mod parts; // parts of a response
+mod runs; // runs over a cache
 mod say; // what is written
 
 use libc::STDIN_FILENO;
@@ -41,6 +42,10 @@ fn say_case(operation: u8, body: &[u8]) {
     }
     if operation == 7 {
         papers::say_written(body);
+        return;
+    }
+    if operation == 8 {
+        runs::say_run(body);
         return;
     }
     say::say(b"-\n");

@@ -118,19 +118,16 @@ fn say_answer(kind: u64, card: Card, this: u64, next: u64) {
     say::say_octets(next, 8);
 }
 
-// What a slip says, as an answer in hex.
-pub(crate) fn say_read(body: &[u8]) {
-    let answer = slip_read::read_slip(body);
-    let card = answer.card;
-    let verdict = answer.verdict;
+// An answer that is no refusal, in hex.
+pub(crate) fn say_said(card: Card, verdict: Verdict) {
     match verdict {
         Verdict::Good { this, next } => {
             say_answer(1, card, this, next);
-            say::say(b"0000000000000000000000\n");
+            say::say(b"0000000000000000000000");
         }
         Verdict::Unknown { this, next } => {
             say_answer(3, card, this, next);
-            say::say(b"0000000000000000000000\n");
+            say::say(b"0000000000000000000000");
         }
         Verdict::Revoked {
             this,
@@ -141,8 +138,22 @@ pub(crate) fn say_read(body: &[u8]) {
             say_answer(2, card, this, next);
             say::say_octets(at, 8);
             say_reason(reason);
-            say::say(b"0000\n");
+            say::say(b"0000");
         }
+        Verdict::Refused { .. } => (),
+    }
+}
+
+// What a slip says, as an answer in hex.
+pub(crate) fn say_read(body: &[u8]) {
+    let answer = slip_read::read_slip(body);
+    let card = answer.card;
+    let verdict = answer.verdict;
+    say_said(card, verdict);
+    match verdict {
+        Verdict::Good { .. } => say::say(b"\n"),
+        Verdict::Unknown { .. } => say::say(b"\n"),
+        Verdict::Revoked { .. } => say::say(b"\n"),
         Verdict::Refused { number, status } => say_refused(number, status),
     }
 }

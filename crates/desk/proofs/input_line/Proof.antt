@@ -1,6 +1,7 @@
 -- `desk::input_line` meets its contract: the line of what is kept is that of the whole input. Assumes nothing.
 use borrow.Author.Needs.{needs}
-use Rattle.desk.proofs.Cases.{end-counted, says-end, says-more, says-failed}
+use Rattle.intake.specs.ReadLaws.{end-counted}
+use Rattle.desk.proofs.Cases.{says-end, says-more, says-failed}
 use Rattle.desk.proofs.input_line.Statement.{statement}
 use Rattle.desk.proofs.input_line.Tie as tie
 

@@ -9,7 +9,7 @@ use borrow.Author.Needs.{needs}
 use lib.ListN.{length}
 use Rattle.intake.specs.Kept.{Holds}
 use Rattle.intake.specs.KeptLaws.{holds-nothing}
-use Rattle.desk.proofs.Cases.{went-on, ended}
+use Rattle.intake.specs.ReadLaws.{went-on, ended}
 use Rattle.desk.proofs.read_all.Statement.{statement}
 use Rattle.desk.proofs.read_all.Tie as tie
 

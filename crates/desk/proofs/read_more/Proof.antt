@@ -1,6 +1,6 @@
 -- `desk::read_more` meets its contract: what came is kept after what was kept. Assumes nothing.
 use borrow.Author.Needs.{needs}
-use Rattle.desk.proofs.Cases.{came-more}
+use Rattle.intake.specs.ReadLaws.{came-more}
 use Rattle.desk.proofs.read_more.Statement.{statement}
 use Rattle.desk.proofs.read_more.Tie as tie
 

@@ -1,137 +1,78 @@
--- `octets::compare::eight` meets its contract: each of the octets has its weight. Assumes nothing.
-use Prim.Native.Nat.{_+_}
-use native.Mathlib.Omega.{arith}
+-- `octets::compare::eight` meets its contract. Assumes nothing.
 use borrow.Author.Needs.{needs}
-use Rattle.octets.proofs.Eights.{eight-is}
+use Rattle.octets.proofs.Eights.{eight-low}
 use Rattle.octets.proofs.compare.eight.Statement.{statement}
 use Rattle.octets.proofs.compare.eight.Tie as tie
 
-cast-a : tie.Need-cast-a
-cast-a c = omega (arith, c .shared-slice-known .given (c .before .args .at))
+shared-slice-read-weigh : tie.Need-shared-slice-read-weigh
+shared-slice-read-weigh c = search needs
 
-cast-b : tie.Need-cast-b
-cast-b c = omega (arith, c .shared-slice-known2 .given (c .before .before .args .at + 1))
+add-weigh : tie.Need-add-weigh
+add-weigh c = search needs
 
-mul-b : tie.Need-mul-b
-mul-b c = omega (arith, c .shared-slice-known2 .given (c .before .before .args .at + 1))
+shared-slice-read-weigh-2 : tie.Need-shared-slice-read-weigh-2
+shared-slice-read-weigh-2 c = search needs
 
-cast-c : tie.Need-cast-c
-cast-c c = omega (arith, c .shared-slice-known3 .given (c .before .before .before .args .at + 2))
+add-weigh-2 : tie.Need-add-weigh-2
+add-weigh-2 c = search needs
 
-mul-c : tie.Need-mul-c
-mul-c c = omega (arith, c .shared-slice-known3 .given (c .before .before .before .args .at + 2))
+shared-slice-read-weigh-3 : tie.Need-shared-slice-read-weigh-3
+shared-slice-read-weigh-3 c = search needs
 
-cast-d : tie.Need-cast-d
-cast-d c = omega (arith, c .shared-slice-known4 .given (c .before .before .before .before .args .at + 3))
+add-weigh-3 : tie.Need-add-weigh-3
+add-weigh-3 c = search needs
 
-mul-d : tie.Need-mul-d
-mul-d c = omega (arith, c .shared-slice-known4 .given (c .before .before .before .before .args .at + 3))
+shared-slice-read-weigh-4 : tie.Need-shared-slice-read-weigh-4
+shared-slice-read-weigh-4 c = search needs
 
-cast-e : tie.Need-cast-e
-cast-e c = omega (arith, c .shared-slice-known5 .given (c .before .before .before .before .before .args .at + 4))
+add-weigh-4 : tie.Need-add-weigh-4
+add-weigh-4 c = search needs
 
-mul-e : tie.Need-mul-e
-mul-e c = omega (arith, c .shared-slice-known5 .given (c .before .before .before .before .before .args .at + 4))
+shared-slice-read-weigh-5 : tie.Need-shared-slice-read-weigh-5
+shared-slice-read-weigh-5 c = search needs
 
-cast-f : tie.Need-cast-f
-cast-f c = omega (arith, c .shared-slice-known6 .given (c .before .before .before .before .before .before .args .at + 5))
+add-weigh-5 : tie.Need-add-weigh-5
+add-weigh-5 c = search needs
 
-mul-f : tie.Need-mul-f
-mul-f c = omega (arith, c .shared-slice-known6 .given (c .before .before .before .before .before .before .args .at + 5))
+shared-slice-read-weigh-6 : tie.Need-shared-slice-read-weigh-6
+shared-slice-read-weigh-6 c = search needs
 
-cast-g : tie.Need-cast-g
-cast-g c = omega (arith, c .shared-slice-known7 .given (c .before .before .before .before .before .before .before .args .at + 6))
+add-weigh-6 : tie.Need-add-weigh-6
+add-weigh-6 c = search needs
 
-mul-g : tie.Need-mul-g
-mul-g c = omega (arith, c .shared-slice-known7 .given (c .before .before .before .before .before .before .before .args .at + 6))
+shared-slice-read-weigh-7 : tie.Need-shared-slice-read-weigh-7
+shared-slice-read-weigh-7 c = search needs
 
-cast-h : tie.Need-cast-h
-cast-h c = omega (arith, c .shared-slice-known8 .given (c .before .before .before .before .before .before .before .before .args .at + 7))
+add-weigh-7 : tie.Need-add-weigh-7
+add-weigh-7 c = search needs
 
-mul-h : tie.Need-mul-h
-mul-h c = omega (arith, c .shared-slice-known8 .given (c .before .before .before .before .before .before .before .before .args .at + 7))
+shared-slice-read-weigh-8 : tie.Need-shared-slice-read-weigh-8
+shared-slice-read-weigh-8 c = search needs
 
-add-low : tie.Need-add-low
-add-low c =
-    let k = c .shared-slice-known8 .given in
-    let at = c .before .before .before .before .before .before .before .before .args .at in
-    omega (arith, k at, k (at + 1))
+weigh-requires : tie.Need-weigh-requires
+weigh-requires c κs = search needs
 
-add-low-2 : tie.Need-add-low-2
-add-low-2 c =
-    let k = c .shared-slice-known8 .given in
-    let at = c .before .before .before .before .before .before .before .before .args .at in
-    omega (arith, k at, k (at + 1), k (at + 2))
-
-add-low-3 : tie.Need-add-low-3
-add-low-3 c =
-    let k = c .shared-slice-known8 .given in
-    let at = c .before .before .before .before .before .before .before .before .args .at in
-    omega (arith, k at, k (at + 1), k (at + 2), k (at + 3))
-
-add-high : tie.Need-add-high
-add-high c =
-    let k = c .shared-slice-known8 .given in
-    let at = c .before .before .before .before .before .before .before .before .args .at in
-    omega (arith, k (at + 4), k (at + 5))
-
-add-high-2 : tie.Need-add-high-2
-add-high-2 c =
-    let k = c .shared-slice-known8 .given in
-    let at = c .before .before .before .before .before .before .before .before .args .at in
-    omega (arith, k (at + 4), k (at + 5), k (at + 6))
-
-add-high-3 : tie.Need-add-high-3
-add-high-3 c =
-    let k = c .shared-slice-known8 .given in
-    let at = c .before .before .before .before .before .before .before .before .args .at in
-    omega (arith, k (at + 4), k (at + 5), k (at + 6), k (at + 7))
-
-add-result : tie.Need-add-result
-add-result c =
-    let k = c .shared-slice-known8 .given in
-    let at = c .before .before .before .before .before .before .before .before .args .at in
-    omega (arith, k at, k (at + 1), k (at + 2), k (at + 3), k (at + 4), k (at + 5), k (at + 6), k (at + 7))
+returns : tie.Need-returns
+returns c = search eight-low
 
 pub eight-spec : {M : Type 1} → statement M
 eight-spec =
     tie.close
     (tie.spec
-    (λ c. search needs)
-    cast-a
-    (λ c. search needs)
-    (λ c. search needs)
-    cast-b
-    mul-b
-    (λ c. search needs)
-    (λ c. search needs)
-    cast-c
-    mul-c
-    (λ c. search needs)
-    (λ c. search needs)
-    cast-d
-    mul-d
-    (λ c. search needs)
-    (λ c. search needs)
-    cast-e
-    mul-e
-    (λ c. search needs)
-    (λ c. search needs)
-    cast-f
-    mul-f
-    (λ c. search needs)
-    (λ c. search needs)
-    cast-g
-    mul-g
-    (λ c. search needs)
-    (λ c. search needs)
-    cast-h
-    mul-h
-    add-low
-    add-low-2
-    add-low-3
-    add-high
-    add-high-2
-    add-high-3
-    add-result
-    (λ c. search eight-is))
+    shared-slice-read-weigh
+    add-weigh
+    shared-slice-read-weigh-2
+    add-weigh-2
+    shared-slice-read-weigh-3
+    add-weigh-3
+    shared-slice-read-weigh-4
+    add-weigh-4
+    shared-slice-read-weigh-5
+    add-weigh-5
+    shared-slice-read-weigh-6
+    add-weigh-6
+    shared-slice-read-weigh-7
+    add-weigh-7
+    shared-slice-read-weigh-8
+    weigh-requires
+    returns)

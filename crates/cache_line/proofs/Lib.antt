@@ -1,0 +1,4 @@
+pub mod PartCases
+pub mod SayCases
+pub mod Turns
+pub mod Cases

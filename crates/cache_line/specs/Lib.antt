@@ -1,0 +1,11 @@
+pub mod Input
+pub mod Marks
+pub mod Reply
+pub mod Wrote
+pub mod WholeLaws
+pub mod FormLaws
+pub mod Told
+pub mod ToldLaws
+pub mod RoomTheorem
+pub mod SizeLaws
+pub mod RepliedLaws

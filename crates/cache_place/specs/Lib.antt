@@ -1,0 +1,4 @@
+pub mod Times
+pub mod TimesLaws
+pub mod Said
+pub mod SaidLaws

@@ -1,0 +1,3 @@
+pub mod Evenly
+pub mod EvenlyLaws
+pub mod Marks

@@ -1,0 +1,41 @@
+-- What the C functions on the room's cache answer: a filing's number and count are in Numbers of crate cache_rules; of an ask a
+-- number, and where a slip is.
+-- clockAt; Placed, foundNumber, slipSpan, foundSpan.
+-- Of a card that is refused or not held the part is empty: it starts at 0 and has no octets. That the number is that of what asking
+-- gives, and that the octets there are its slip, is in CachesLaws.
+-- Assumes nothing.
+use Prim.Native.Nat.{ℕ, _*_, _<_}
+use mathlib.Core.Path.{_≡_}
+use mathlib.Core.List.{List, []}
+use lib.ListN.{length, getD}
+use Rattle.freshness.specs.declared.Clock.{Clock}
+use Rattle.response.specs.declared.Span.{Span}
+use Rattle.cache_rules.specs.Place.{slipIn}
+use Rattle.cache_places.specs.Evenly.{evenly}
+use Rattle.cache_ask.specs.declared.Found.{Found}
+use Rattle.cache_ask.specs.declared.Found.the-variants.{At, NotHeld, Refused}
+use Rattle.desk_c.specs.Places.{empty}
+
+-- a time and a tolerance
+abbrev pub clockAt : ℕ → ℕ → Clock
+clockAt time tolerance = record { now = time; tolerance = tolerance }
+
+-- a place that is found is one of the 64
+abbrev pub Placed : Found → Type 0
+Placed found = (i : ℕ) → found ≡ At i → i < 64
+
+-- the number of what is found of a card: 0 a slip that counts, 256 not held, or a refusal's
+unfoldable pub foundNumber : Found → ℕ
+foundNumber (At i) = 0
+foundNumber NotHeld = 256
+foundNumber (Refused number) = number
+
+-- where the slip of place i is
+unfoldable pub slipSpan : List ℕ → ℕ → Span
+slipSpan s i = record { start = 87 * i; len = length (slipIn (getD (evenly s) i [])) }
+
+-- where the slip that is found is
+unfoldable pub foundSpan : List ℕ → Found → Span
+foundSpan s (At i) = slipSpan s i
+foundSpan s NotHeld = empty
+foundSpan s (Refused number) = empty
