@@ -10,6 +10,8 @@
  *   desk_check         says what a response means for a question
  *   desk_slip          says whether octets are a slip
  *   desk_entry         shows the entry at an ordinal
+ *   desk_cache_file    files a slip in the room's cache
+ *   desk_cache_ask     asks the room's cache for a card
  *
  * Every function is proved to meet its contract: it ends with a defined answer for any octets and
  * any lengths, it reads and writes nothing outside what it is lent, and what it answers is what the
@@ -19,12 +21,14 @@
  * What a caller of every function owes, since no function can test it:
  *   - a pointer to octets is valid for as many octets as the length beside it says. It is not NULL,
  *     also where that length is 0;
- *   - what a function writes (`slip`, `out`, `status`, `from`, `len`) overlaps nothing else that it is
- *     lent;
- *   - no other thread changes what is lent while the call lasts.
+ *   - what a function writes (`slip`, `out`, `status`, `from`, `len`, `places`, and of desk_cache_file the
+ *     `cache`) overlaps nothing else that it is lent;
+ *   - no other thread or process changes what is lent while the call lasts, or reads a cache while a slip is
+ *     filed in it.
  *
  * Limits: a response of more than 16,384 octets is refused before it is read. Stack: under 4 KiB
- * (tools/stack measures it on a response as full and as deep as the layout allows); leave 8 KiB.
+ * (tools/stack measures it on a response as full and as deep as the layout allows, and on full caches);
+ * leave 8 KiB.
  *
  * To link (x86-64 Linux): `tools/install PREFIX` puts archive, header and a pkg-config file where C
  * programs look for them, and then
@@ -32,7 +36,7 @@
  * The archive needs nothing but the C library.
  *
  * docs/INTEGRATORS.md says which facts a caller has to find out, and what to do with each answer;
- * examples/row is a whole program with real parts.
+ * examples/row is a whole program with real parts, examples/room one with a cache.
  */
 #ifndef DESK_H
 #define DESK_H
@@ -51,6 +55,13 @@ extern "C" {
 #define DESK_RESPONSE_MAX 16384  /* a response, at most */
 #define DESK_SLIP_MAX 87         /* a slip, at most: a buffer of this size is never too short */
 #define DESK_REQUEST_MAX 87      /* a request, at most: a buffer of this size is never too short */
+#define DESK_CACHE_LEN 5568      /* a cache: DESK_PLACES places of 87 octets */
+
+/* Places of a cache. */
+#define DESK_PLACES 64
+
+/* What desk_cache_ask returns where no place has the card: not the number of a refusal. */
+#define DESK_NOT_HELD 256
 
 /* Kinds: the first octet of a slip, and of a question. */
 #define DESK_GOOD 0x01
@@ -114,6 +125,9 @@ extern "C" {
  *     1   1  number
  *     2   1  status of the response, 1, 2, 3, 5 or 6, with number 4; else 0
  *
+ * Cache, 5,568 octets: 64 places of 87. A place is empty, all zeros, or a slip of kind 01, 02 or 03 with zeros
+ * after it; no card is in two places. A new cache is 5,568 zeros.
+ *
  * Numbers of refusals. A refusal is never "revoked": it says that there is no answer, and why.
  *     1  question out of range
  *     2  response longer than 16,384 octets
@@ -132,8 +146,11 @@ extern "C" {
  *    14  nextUpdate is before thisUpdate
  *    15  thisUpdate is after now
  *    16  now is after nextUpdate plus tolerance
- *    17  octets are no slip
- * A check gives the first of 1 to 16 that applies.
+ *    17  octets are no slip; in a filing, also a slip of kind 04
+ *    19  buffer is no cache
+ *    20  the slip's card has no place in the cache, and no place is empty or stale
+ * A check gives the first of 1 to 16 that applies. A filing gives the first of 19, 1, 17 and 20, an ask of a
+ * cache the first of 19, 1, 15 and 16; 1 is there for a card, time or tolerance out of range.
  */
 
 /*
@@ -216,6 +233,40 @@ size_t desk_slip(const uint8_t *slip, size_t sliplen);
  * part.
  */
 size_t desk_entry(const uint8_t *response, size_t rlen, size_t ordinal, size_t *from, size_t *len);
+
+/*
+ * Files a slip in the cache. `now` and `tolerance` say when this is: a slip is stale where `now` is past its
+ * nextUpdate plus `tolerance`.
+ *
+ * Where a place has the slip's card, that place has then the slip whose thisUpdate is later, on a tie the new
+ * one. Else the slip takes the first place that is empty or stale. A slip that is stale itself, or from the
+ * future, is filed all the same.
+ *
+ * Returns 0 and sets `*places` to how many places are then not empty; no other place is written. Returns 19, 1,
+ * 17 or 20, sets `*places` to 0 and leaves every octet of `cache` as it was: 19 where `cache` is no cache, 1
+ * for a time above 253,402,300,799 or a tolerance above 3,600, 17 where the octets are no slip of kind 01, 02
+ * or 03, 20 where the card has no place and none is empty or stale.
+ *
+ * Filing needs a writer's lock: no one else may read or write the cache meanwhile. The slip must not lie in the
+ * cache. Keep a copy before a filing if the machine may lose power in the middle of one: the slip is written
+ * octet by octet. docs/INTEGRATORS.md says how to keep a cache in a file.
+ */
+size_t desk_cache_file(uint8_t *cache, size_t cachelen, const uint8_t *slip, size_t sliplen,
+                       uint64_t now, uint64_t tolerance, size_t *places);
+
+/*
+ * Asks the cache for a card at a time. It writes nothing but `*from` and `*len`, so that any number may ask at
+ * once.
+ *
+ * Returns 0 and the place of the card's slip: it is the `*len` octets at `cache + *from`, 78 or 87, of kind 01,
+ * 02 or 03. They are the caller's own octets, nothing is copied: a later filing may write over them. Returns
+ * DESK_NOT_HELD where no place has the card, or a refusal's number: 19 where `cache` is no cache, 1 for a time
+ * above 253,402,300,799, a tolerance above 3,600, or octets that are no card (another number than 61, a serial
+ * that breaks the rule, a fill that is not zeros), 15 where the slip's thisUpdate is after `now`, 16 where `now`
+ * is after its nextUpdate plus `tolerance`. `*from` and `*len` are then both 0.
+ */
+size_t desk_cache_ask(const uint8_t *cache, size_t cachelen, const uint8_t *card, size_t clen,
+                      uint64_t now, uint64_t tolerance, size_t *from, size_t *len);
 
 #ifdef __cplusplus
 }

@@ -9,6 +9,8 @@
  *     the last with so many elements side by side that the response has some 16,384 octets;
  *   - a small one, whole, and with each of its octets changed;
  *   - an error, a response of another type, and one that is too long.
+ * The caches: a new one; a full one, with cards that differ in their issuer alone, the last one asked for and
+ * filed; one with a card in two places; and one that is too short.
  *
  * Prints the most that was seen of each function; the frame of its caller, some 30 octets, is counted
  * with it. Ends with 1 where a function used as much as its limit or more, and with 2 where the full
@@ -213,6 +215,31 @@ static void call_request(void)
 }
 static void call_slip(void) { desk_slip(slip, slip_len); }
 
+static uint8_t cache[DESK_CACHE_LEN], filed[DESK_SLIP_MAX];
+static size_t cache_len = DESK_CACHE_LEN;
+static const uint64_t now = 1114909200; /* 20050501010000Z */
+
+static void call_cache_file(void)
+{
+    desk_cache_file(cache, cache_len, filed, sizeof filed, now, 0, &len);
+}
+static void call_cache_ask(void)
+{
+    desk_cache_ask(cache, cache_len, filed + 1, DESK_CARD_LEN, now, 0, &from, &len);
+}
+
+/* A revoked slip for the card with the question's serial under the issuer of this number. */
+static void put_slip(uint8_t at[DESK_SLIP_MAX], unsigned issuer)
+{
+    memset(at, 0, DESK_SLIP_MAX);
+    at[0] = DESK_REVOKED;
+    memcpy(at + 1, question + 1, DESK_CARD_LEN);
+    at[1] = (uint8_t)issuer;
+    for (int i = 0; i < 3; i++)
+        memcpy(at + 62 + 8 * i, question + 62, 8);
+    at[86] = DESK_NO_REASON;
+}
+
 static struct row {
     const char *name;
     void (*call)(void);
@@ -228,6 +255,8 @@ static struct row {
     {"desk_check", call_check, 0, ""},
     {"desk_slip", call_slip, 0, ""},
     {"desk_entry", call_entry, 0, ""},
+    {"desk_cache_file", call_cache_file, 0, ""},
+    {"desk_cache_ask", call_cache_ask, 0, ""},
 };
 #define ROWS (sizeof rows / sizeof rows[0])
 
@@ -266,7 +295,7 @@ static size_t used(void (*call)(void))
     return (size_t)(caller - lowest);
 }
 
-/* Every function on the response as it stands. */
+/* Every function on the response and the cache as they stand. */
 static void measure(const char *what)
 {
     for (struct row *r = rows; r < rows + ROWS; r++) {
@@ -313,6 +342,19 @@ int main(int count, char **words)
     measure("an error");
     rlen = DESK_RESPONSE_MAX + 1;
     measure("a response that is too long");
+
+    put_slip(filed, 1);
+    measure("a new cache");
+    for (unsigned i = 0; i < DESK_PLACES; i++)
+        put_slip(cache + DESK_SLIP_MAX * i, i + 1);
+    for (unsigned issuer = DESK_PLACES; issuer <= DESK_PLACES + 1; issuer++) {
+        put_slip(filed, issuer);
+        measure("a full cache");
+    }
+    put_slip(cache, DESK_PLACES);
+    measure("a card in two places");
+    cache_len--;
+    measure("a cache that is too short");
 
     int status = 0;
     for (struct row *r = rows; r < rows + ROWS; r++) {

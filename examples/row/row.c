@@ -9,27 +9,11 @@
  * no-check sign for, two with RSA-PSS (over SHA-256, and over SHA-1), and one where nobody listens.
  * Ends with 0 exactly if every scene ended as it should.
  */
-#include <inttypes.h>
 #include <stdio.h>
 #include <stdlib.h>
-#include <string.h>
 
-#include <openssl/pem.h>
-
-#include "facts.h"
-#include "http.h"
+#include "asking.h"
 #include "words.h"
-
-/* How far this desk lets an answer outlive its nextUpdate, in seconds. */
-#define TOLERANCE 300
-
-/* One octet more than the longest response: a longer one is then refused as such, and not cut. */
-#define ROOM (DESK_RESPONSE_MAX + 1)
-
-struct response {
-    uint8_t octets[ROOM];
-    size_t len;
-};
 
 static int scenes, wrong;
 
@@ -40,9 +24,9 @@ static void scene(const char *what)
 }
 
 /* Counts a scene's answer that is not the one it should have: a kind, and a refusal's number. */
-static void expect(const uint8_t *slip, uint8_t kind, uint8_t number)
+static void expect(const struct slip *slip, uint8_t kind, uint8_t number)
 {
-    if (slip[0] == kind && (kind != DESK_REFUSAL || slip[1] == number))
+    if (slip->octets[0] == kind && (kind != DESK_REFUSAL || slip->octets[1] == number))
         return;
     printf("  WRONG     this scene should have ended otherwise\n");
     wrong++;
@@ -57,94 +41,48 @@ static void expect_verdict(uint8_t verdict, uint8_t wanted)
     wrong++;
 }
 
-/* Writes the request for a card and posts it. Returns 0 where no response came. */
-static int ask(X509 *certificate, X509 *ca, int port, struct response *response)
-{
-    uint8_t card[DESK_CARD_LEN], request[DESK_REQUEST_MAX];
-    const char *why = "";
-    size_t len = 0, from;
-    long got;
-    response->len = 0;
-    if (card_of(certificate, ca, card))
-        len = desk_request(card, sizeof card, request, sizeof request);
-    if (len == 0) {
-        printf("  request   none: this certificate is no card of that CA\n");
-        return 0;
-    }
-    printf("  request   %zu octets, posted to 127.0.0.1:%d\n", len, port);
-    got = http_post(port, request, len, response->octets, ROOM, &why);
-    if (got < 0) {
-        printf("  response  none: %s\n", why);
-        return 0;
-    }
-    response->len = (size_t)got;
-    printf("  response  %zu octets", response->len);
-    if (desk_signed(response->octets, response->len, &from, &len) == 0)
-        printf(", of which %zu from %zu on are signed", len, from);
-    if (desk_signature(response->octets, response->len, &from, &len) == 0)
-        printf(", and %zu from %zu on are the signature", len, from);
-    printf("\n");
-    return 1;
-}
-
-/* Finds the facts about a response out, asks the check, and says what it answers. Returns the verdict. */
-static uint8_t judge(const struct response *response, X509 *certificate, X509 *ca, X509 *trusted,
-                     time_t now, uint8_t slip[DESK_SLIP_MAX])
-{
-    uint8_t card[DESK_CARD_LEN] = {0}, question[DESK_QUESTION_LEN];
-    struct facts facts;
-    card_of(certificate, ca, card);
-    facts_of(response->octets, response->len, ca, trusted, now, &facts);
-    say_signer(&facts);
-    question_of(card, (uint64_t)now, TOLERANCE, &facts, question);
-    memset(slip, 0, DESK_SLIP_MAX);
-    say_slip(slip, desk_check(question, sizeof question, response->octets, response->len, slip,
-                              DESK_SLIP_MAX));
-    return facts.verdict;
-}
-
 /* A whole scene of the common kind: asks, and judges at once. */
 static void play(const char *what, X509 *certificate, X509 *ca, int port, uint8_t verdict,
                  uint8_t kind, uint8_t number)
 {
     struct response response;
-    uint8_t slip[DESK_SLIP_MAX] = {0};
+    struct slip slip = {0};
     scene(what);
     if (ask(certificate, ca, port, &response))
-        expect_verdict(judge(&response, certificate, ca, NULL, time(NULL), slip), verdict);
-    expect(slip, kind, number);
+        expect_verdict(judge(&response, certificate, ca, NULL, time(NULL), &slip), verdict);
+    expect(&slip, kind, number);
 }
 
 /* The same octets at nextUpdate plus tolerance, and a second later. */
 static void play_stale(X509 *card, X509 *ca, int port)
 {
     struct response kept;
-    uint8_t slip[DESK_SLIP_MAX] = {0};
+    struct slip slip = {0};
     scene("an answer is kept, and served again the next day");
     if (ask(card, ca, port, &kept))
-        judge(&kept, card, ca, NULL, time(NULL), slip);
-    expect(slip, DESK_GOOD, 0);
-    time_t last = (time_t)number_at(slip + 70, 8) + TOLERANCE;
+        judge(&kept, card, ca, NULL, time(NULL), &slip);
+    expect(&slip, DESK_GOOD, 0);
+    time_t last = (time_t)number_at(slip.octets + 70, 8) + TOLERANCE;
     printf("  the next day, at nextUpdate plus %d seconds of tolerance:\n", TOLERANCE);
-    judge(&kept, card, ca, NULL, last, slip);
-    expect(slip, DESK_GOOD, 0);
+    judge(&kept, card, ca, NULL, last, &slip);
+    expect(&slip, DESK_GOOD, 0);
     printf("  one second later:\n");
-    judge(&kept, card, ca, NULL, last + 1, slip);
-    expect(slip, DESK_REFUSAL, 16);
+    judge(&kept, card, ca, NULL, last + 1, &slip);
+    expect(&slip, DESK_REFUSAL, 16);
 }
 
 /* A slip is not signed: what comes back from elsewhere may be no slip any more. */
 static void play_kept_slip(X509 *card, X509 *ca, int port)
 {
     struct response response;
-    uint8_t slip[DESK_SLIP_MAX] = {0};
+    struct slip slip = {0};
     scene("a slip is kept, and damaged before it is read again");
     if (ask(card, ca, port, &response))
-        expect_verdict(judge(&response, card, ca, NULL, time(NULL), slip), DESK_VALID);
-    expect(slip, DESK_GOOD, 0);
-    slip[0] = DESK_REFUSAL;
+        expect_verdict(judge(&response, card, ca, NULL, time(NULL), &slip), DESK_VALID);
+    expect(&slip, DESK_GOOD, 0);
+    slip.octets[0] = DESK_REFUSAL;
     printf("  read again, with its first octet changed:\n");
-    if (say_slip(slip, 78) != 17)
+    if (say_slip(slip.octets, slip.len) != 17)
         wrong++;
 }
 
@@ -152,15 +90,15 @@ static void play_kept_slip(X509 *card, X509 *ca, int port)
 static void play_altered(const char *what, X509 *card, X509 *ca, int port)
 {
     struct response response;
-    uint8_t slip[DESK_SLIP_MAX] = {0};
+    struct slip slip = {0};
     size_t from, len;
     scene(what);
     if (ask(card, ca, port, &response) &&
         desk_signed(response.octets, response.len, &from, &len) == 0) {
         response.octets[from + len - 2] ^= 1; /* the last digit of nextUpdate */
-        expect_verdict(judge(&response, card, ca, NULL, time(NULL), slip), DESK_INVALID);
+        expect_verdict(judge(&response, card, ca, NULL, time(NULL), &slip), DESK_INVALID);
     }
-    expect(slip, DESK_REFUSAL, 6);
+    expect(&slip, DESK_REFUSAL, 6);
 }
 
 /* A cache that looks for the serial alone hands out the answer for another CA's card. */
@@ -168,13 +106,13 @@ static void play_other_issuer(X509 *card, X509 *ca, X509 *theirs, X509 *their_ca
                               int port)
 {
     struct response response;
-    uint8_t slip[DESK_SLIP_MAX] = {0};
+    struct slip slip = {0};
     scene("the answer is for the same serial under another issuer");
     if (ASN1_INTEGER_cmp(X509_get0_serialNumber(card), X509_get0_serialNumber(theirs)) != 0)
         printf("  the two cards do not have the same serial\n");
     else if (ask(card, ca, port, &response))
-        judge(&response, theirs, their_ca, trusted, time(NULL), slip);
-    expect(slip, DESK_REFUSAL, 10);
+        judge(&response, theirs, their_ca, trusted, time(NULL), &slip);
+    expect(&slip, DESK_REFUSAL, 10);
 }
 
 /* Nobody answers: there is nothing to check. */
@@ -191,13 +129,8 @@ static void play_down(X509 *card, X509 *ca, int port)
 static X509 *certificate_in(const char *folder, const char *name)
 {
     char path[4096];
-    X509 *certificate = NULL;
     snprintf(path, sizeof path, "%s/%s.pem", folder, name);
-    FILE *file = fopen(path, "r");
-    if (file != NULL) {
-        certificate = PEM_read_X509(file, NULL, NULL, NULL);
-        fclose(file);
-    }
+    X509 *certificate = certificate_at(path);
     if (certificate == NULL) {
         fprintf(stderr, "row: no certificate in %s\n", path);
         exit(2);

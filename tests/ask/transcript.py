@@ -5,7 +5,7 @@
 # A case is an indented line '$ ./ask WORDS', which goes on as in a shell, and below it the output
 # with the same indent, up to the first line without it. All cases run in this one process.
 # Of every case it also holds:
-#   the exit status is 0 for good, 1 for any other answer, 2 for bad use, by the first word shown;
+#   the exit status is, by the first word shown, 1 for another answer than good, 2 for bad use, else 0;
 #   bad use writes one line, and that to standard error; all else writes to standard output;
 #   a refusal says that the folio stays closed, and has no word of revoking.
 
@@ -15,7 +15,7 @@ import re
 import shlex
 import sys
 
-STATUS = {'good:': 0, 'revoked:': 1, 'unknown:': 1, 'refused,': 1, 'ask:': 2}
+STATUS = {'good:': 0, 'revoked:': 1, 'unknown:': 1, 'refused,': 1, 'not': 1, 'ask:': 2}
 
 
 def goes_on(words):

@@ -53,7 +53,29 @@
     F(READER_REFUSES, "desk_slip refuses everything") \
     F(ENTRY_PAST, "desk_entry reads past the response") \
     F(ENTRY_NEXT, "desk_entry shows the entry behind") \
-    F(ENTRY_LAST, "desk_entry shows the first entry past the last")
+    F(ENTRY_LAST, "desk_entry shows the first entry past the last") \
+    F(FILING_PAST, "desk_cache_file reads past the slip") \
+    F(FILING_BEFORE, "desk_cache_file reads before the slip") \
+    F(FILING_BESIDE, "desk_cache_file writes past the cache") \
+    F(FILING_BESIDE_PLACES, "desk_cache_file writes beside *places") \
+    F(FILING_LEAVES, "desk_cache_file leaves *places as it was with a refusal") \
+    F(FILING_COUNTS, "desk_cache_file counts a place more") \
+    F(FILING_REFUSED, "desk_cache_file writes into a cache that it refuses") \
+    F(FILING_TIE, "desk_cache_file keeps the old slip on a tie") \
+    F(FILING_TAIL, "desk_cache_file leaves the end of a longer slip") \
+    F(FILING_TOLERANCE, "desk_cache_file leaves the tolerance out") \
+    F(FILING_ORDER, "desk_cache_file says 17 before 1") \
+    F(ASKING_CARD_PAST, "desk_cache_ask reads past the card") \
+    F(ASKING_CARD_BEFORE, "desk_cache_ask reads before the card") \
+    F(ASKING_CACHE_PAST, "desk_cache_ask reads past the cache") \
+    F(ASKING_CACHE_BEFORE, "desk_cache_ask reads before the cache") \
+    F(ASKING_WRITES, "desk_cache_ask writes into the cache") \
+    F(ASKING_LEAVES, "desk_cache_ask leaves *from as it was without an answer") \
+    F(ASKING_BESIDE, "desk_cache_ask writes past *len") \
+    F(ASKING_PLACE, "desk_cache_ask shows the whole place") \
+    F(ASKING_STALE, "desk_cache_ask shows a stale slip") \
+    F(ASKING_OTHER, "desk_cache_ask shows the first place's slip where the card is not held") \
+    F(ASKING_LENGTH, "desk_cache_ask takes 62 octets for a card")
 
 #define NAME(fault, what) fault,
 #define WHAT(fault, what) what,
@@ -212,5 +234,85 @@ size_t __wrap_desk_entry(const uint8_t *response, size_t rlen, size_t ordinal, s
         __real_desk_entry(response, rlen, ordinal + (broken == ENTRY_NEXT ? 1 : 0), from, len);
     if (broken == ENTRY_LAST && number == 0 && *len == 0)
         number = __real_desk_entry(response, rlen, 0, from, len);
+    return number;
+}
+
+/* How many octets a cache that is looked at may have here. */
+#define CACHE_MOST ((size_t)1 << 18)
+
+size_t __real_desk_cache_file(uint8_t *cache, size_t cachelen, const uint8_t *slip, size_t sliplen,
+                              uint64_t now, uint64_t tolerance, size_t *places);
+size_t __real_desk_cache_ask(const uint8_t *cache, size_t cachelen, const uint8_t *card, size_t clen,
+                             uint64_t now, uint64_t tolerance, size_t *from, size_t *len);
+
+/* The one place that a filing wrote: its octets before, and as they are now. */
+static void after_filing(uint8_t *cache, const uint8_t *was)
+{
+    for (size_t at = 0; at < DESK_CACHE_LEN; at += DESK_SLIP_MAX) {
+        int same_card = memcmp(cache + at + 1, was + at + 1, DESK_CARD_LEN) == 0;
+        if (broken == FILING_TIE && same_card && memcmp(cache + at + 62, was + at + 62, 8) == 0)
+            memcpy(cache + at, was + at, DESK_SLIP_MAX);
+        if (broken == FILING_TAIL && was[at] == DESK_REVOKED && cache[at] != DESK_REVOKED)
+            memcpy(cache + at + 78, was + at + 78, 9);
+    }
+}
+
+size_t __wrap_desk_cache_file(uint8_t *cache, size_t cachelen, const uint8_t *slip, size_t sliplen,
+                              uint64_t now, uint64_t tolerance, size_t *places)
+{
+    static uint8_t was[CACHE_MOST];
+    size_t before = *places;
+    if (cachelen > CACHE_MOST)
+        exit(2);
+    memcpy(was, cache, cachelen);
+    touch(slip, sliplen, FILING_BEFORE, FILING_PAST);
+    size_t number = __real_desk_cache_file(cache, cachelen, slip, sliplen, now,
+                                           broken == FILING_TOLERANCE ? 0 : tolerance, places);
+    if (number == 0)
+        after_filing(cache, was);
+    if (broken == FILING_BESIDE)
+        cache[cachelen] = 0;
+    if (broken == FILING_BESIDE_PLACES)
+        places[1] = 0;
+    if (broken == FILING_LEAVES && number != 0)
+        *places = before;
+    if (broken == FILING_COUNTS && number == 0)
+        *places += 1;
+    if (broken == FILING_REFUSED && number != 0 && cachelen > 0)
+        cache[cachelen - 1] ^= 1;
+    if (broken == FILING_ORDER && number == 1 &&
+        __real_desk_cache_file(was, cachelen, slip, sliplen, 0, 0, &before) == 17)
+        number = 17;
+    return number;
+}
+
+size_t __wrap_desk_cache_ask(const uint8_t *cache, size_t cachelen, const uint8_t *card, size_t clen,
+                             uint64_t now, uint64_t tolerance, size_t *from, size_t *len)
+{
+    size_t before = *from;
+    touch(cache, cachelen, ASKING_CACHE_BEFORE, ASKING_CACHE_PAST);
+    touch(card, clen, ASKING_CARD_BEFORE, ASKING_CARD_PAST);
+    if (broken == ASKING_WRITES && cachelen > 0)
+        *(volatile uint8_t *)cache = cache[0];
+    if (broken == ASKING_LENGTH && clen == DESK_CARD_LEN + 1)
+        clen = DESK_CARD_LEN;
+    size_t number = __real_desk_cache_ask(cache, cachelen, card, clen, now, tolerance, from, len);
+    if (broken == ASKING_LEAVES && number != 0)
+        *from = before;
+    if (broken == ASKING_BESIDE)
+        len[1] = 0;
+    if (broken == ASKING_PLACE && number == 0)
+        *len = DESK_SLIP_MAX;
+    if (broken == ASKING_STALE && number == 16) {
+        for (size_t at = 0; at < DESK_CACHE_LEN; at += DESK_SLIP_MAX)
+            if (memcmp(cache + at + 1, card, DESK_CARD_LEN) == 0)
+                *from = at;
+        *len = cache[*from] == DESK_REVOKED ? 87 : 78;
+        return 0;
+    }
+    if (broken == ASKING_OTHER && number == DESK_NOT_HELD && cache[0] != 0) {
+        *len = cache[0] == DESK_REVOKED ? 87 : 78;
+        return 0;
+    }
     return number;
 }

@@ -3,22 +3,24 @@
  *
  *     edges answers < STREAM    a line for each case, in the form of tests/README.md
  *     edges parts < STREAM      what is shown of each desk case's response
- *     edges document            document 01's case, source document 000's A.1, and odd lengths
+ *     edges document            document 01's case, source document 000's A.1, document 02's cache, and odd
+ *                               lengths
  *
  * Each call is made at every edge, with buffers of exact, longer and shorter sizes. What desk.h
  * promises of each call is looked at here; what is answered is written, for others to compare. For a
- * slip the line is what desk_slip returns. Ends with 1 at the first broken promise.
+ * slip the line is what desk_slip returns. Ends with 1 at the first broken promise. The functions on the
+ * cache are called in caches.c.
  */
-#include "rooms.h"
+#include "edges.h"
 
 #include <signal.h>
 
 #include "desk.h"
 
 static unsigned long cases;
-static const char *called = "";
+const char *called = "";
 
-static void hold(int kept, const char *promise)
+void hold(int kept, const char *promise)
 {
     if (kept)
         return;
@@ -47,8 +49,7 @@ static void print_hex(const uint8_t *octets, size_t len)
     printf("\n");
 }
 
-/* A number lent at an edge, to be set. */
-static size_t *lend_number(const struct room *room, enum edge edge)
+size_t *lend_number(const struct room *room, enum edge edge)
 {
     return (size_t *)lend_buffer(room, edge, sizeof(size_t));
 }
@@ -292,6 +293,7 @@ static void answers(void)
         case 4: answer_entry(len); break;
         case 5: answer_request(); break;
         case 6: answer_slip(len); break;
+        case 8: answer_run(body, len); break;
         default: fprintf(stderr, "edges: no operation %d\n", operation); exit(2);
         }
 }
@@ -436,6 +438,7 @@ int main(int argc, char **argv)
     buffer_room = new_room(PROT_READ | PROT_WRITE);
     from_room = new_room(PROT_READ | PROT_WRITE);
     len_room = new_room(PROT_READ | PROT_WRITE);
+    new_cache_rooms();
     if (strcmp(word, "answers") == 0)
         answers();
     else if (strcmp(word, "parts") == 0)
@@ -445,6 +448,7 @@ int main(int argc, char **argv)
         document_refusal();
         document_request();
         document_slip();
+        document_caches();
     } else {
         fprintf(stderr, "usage: edges answers | parts | document\n");
         return 2;

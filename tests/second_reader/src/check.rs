@@ -17,6 +17,18 @@ pub enum Answer {
     Refused { number: u8, status: u8 },
 }
 
+impl Answer {
+    pub fn accepted(status: &Status, card: Card, this_update: u64, next_update: u64) -> Answer {
+        match *status {
+            Status::Good => Answer::Good { card, this_update, next_update },
+            Status::Unknown => Answer::Unknown { card, this_update, next_update },
+            Status::Revoked { time, reason } => {
+                Answer::Revoked { card, this_update, next_update, time, reason }
+            }
+        }
+    }
+}
+
 impl From<Refusal> for Answer {
     fn from(refusal: Refusal) -> Answer {
         Answer::Refused { number: refusal.number, status: refusal.status }
@@ -54,17 +66,10 @@ pub fn judge(question: &Question, response: &[u8]) -> Result<Answer, Refusal> {
         return Err(Refusal::plain(13));
     };
     refuse_if(next_update < this_update, 14)?;
-    refuse_if(this_update > question.now, 15)?;
-    refuse_if(question.now > next_update + question.tolerance, 16)?;
+    refuse_if(question.clock().is_before(this_update), 15)?;
+    refuse_if(question.clock().is_past(next_update), 16)?;
 
-    let card = question.card.clone();
-    Ok(match entry.status {
-        Status::Good => Answer::Good { card, this_update, next_update },
-        Status::Unknown => Answer::Unknown { card, this_update, next_update },
-        Status::Revoked { time, reason } => {
-            Answer::Revoked { card, this_update, next_update, time, reason }
-        }
-    })
+    Ok(Answer::accepted(&entry.status, question.card.clone(), this_update, next_update))
 }
 
 fn refuse_if(applies: bool, number: u8) -> Result<(), Refusal> {

@@ -1,19 +1,23 @@
 //! A second reader of OCSP responses, written from document 01 ("The build,
-//! stated with its exact rules") and the list of settled readings, and from
-//! nothing else.  It is evidence from outside for the verified reader, so it
-//! goes another way wherever it can: it first builds the whole tree of the
-//! octets, then judges that tree, and makes owned values throughout.
+//! stated with its exact rules"), document 02 ("Follow-up change requests") and
+//! the settled readings of both, and from nothing else.  It is evidence from
+//! outside for the verified reader, so it goes another way wherever it can: it
+//! first builds the whole tree of the octets, then judges that tree, and makes
+//! owned values throughout.
 //!
 //! The order of the modules is the order of the work:
 //! octets (`element`, `oid`, `serial`, `time`), what they mean (`reading`,
 //! `layout`, `parts`), what is asked (`question`), what is answered (`check`,
-//! `shown`), what is written (`piece`, `write`, `request`, `slip`), the
-//! program (`desk`), and the cases that are run against others (`cases`).
+//! `shown`), what is written (`piece`, `write`, `request`, `slip`), what is kept
+//! (`cache`, `filing`), the program (`desk`), and the cases that are run against
+//! others (`cases`).
 
+pub mod cache;
 pub mod cases;
 pub mod check;
 pub mod desk;
 pub mod element;
+pub mod filing;
 pub mod hex;
 pub mod layout;
 pub mod limits;

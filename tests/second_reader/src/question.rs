@@ -1,4 +1,4 @@
-//! The card and the question.  01, "The question".
+//! The card, the clock and the question.  01, "The question".
 
 use crate::serial::Serial;
 use crate::time;
@@ -8,7 +8,7 @@ use crate::time;
 pub const CARD: usize = 61;
 
 /// A card as it was handed over; `serial` says whether its serial will do.
-#[derive(Debug, Clone, PartialEq, Eq)]
+#[derive(Debug, Clone, PartialEq, Eq, PartialOrd, Ord)]
 pub struct Card {
     pub name_hash: [u8; 20],
     pub key_hash: [u8; 20],
@@ -57,6 +57,30 @@ impl Card {
     }
 }
 
+/// The time at which something is asked, and how far nextUpdate may be past.
+#[derive(Debug, Clone, Copy, PartialEq, Eq)]
+pub struct Clock {
+    pub now: u64,
+    pub tolerance: u64,
+}
+
+impl Clock {
+    /// 01, number 1: "now above 253,402,300,799, tolerance above 3,600".
+    pub fn in_range(&self) -> bool {
+        self.now <= time::LAST && self.tolerance <= 3_600
+    }
+
+    /// 01, number 15: "thisUpdate is after now".
+    pub fn is_before(&self, this_update: u64) -> bool {
+        this_update > self.now
+    }
+
+    /// 01, number 16: "now is after nextUpdate plus tolerance".
+    pub fn is_past(&self, next_update: u64) -> bool {
+        self.now > next_update + self.tolerance
+    }
+}
+
 #[derive(Debug, Clone, PartialEq, Eq)]
 pub struct Question {
     pub card: Card,
@@ -71,13 +95,16 @@ pub struct Question {
 }
 
 impl Question {
+    pub fn clock(&self) -> Clock {
+        Clock { now: self.now, tolerance: self.tolerance }
+    }
+
     /// 01, number 1: "question out of range: serial rule broken, now above
     /// 253,402,300,799, tolerance above 3,600, verdict above 2, role not 1 to
     /// 3, marks above 7, Name above 256 octets".
     pub fn in_range(&self) -> bool {
         self.card.serial().is_some()
-            && self.now <= time::LAST
-            && self.tolerance <= 3_600
+            && self.clock().in_range()
             && self.verdict <= 2
             && (1..=3).contains(&self.role)
             && self.marks <= 7

@@ -5,25 +5,27 @@ use std::path::Path;
 use std::process::ExitCode;
 
 use second_reader::cases::answers::{line, parts_line, place_line, Counts};
-use second_reader::cases::record::{read_stream, Record};
-use second_reader::cases::{generate, published, table};
+use second_reader::cases::record::{read_stream, Record, RUN};
+use second_reader::cases::{generate, published, run, runs, table};
 use second_reader::hex;
 
 const USE: &str = "cases published DIR            a stream of cases about the *.der in DIR
 cases mutated DIR SEED COUNT   the same responses with octets damaged
 cases generate SEED COUNT      cases made from a seed
+cases runs SEED COUNT          runs over one cache, made from a seed
 cases answers < STREAM         one line of answer for each case
 cases places < STREAM          the place for each desk case that gives 3, else -
 cases parts < STREAM           what is shown of each desk case's response, else -
 cases counts < STREAM          how often each outcome comes
 cases only OPS SIZE < STREAM   the cases of these operations (as 2,3,4) with at most SIZE octets
-cases show INDEX < STREAM      one case in hex, with its answer and place
+cases pick NUMBERS < STREAM    the cases of these numbers (as 4,17), counted from 0
+cases show INDEX < STREAM      one case in hex, with its answer and place; a run step by step
 cases table DIR                the table of published responses";
 
 fn main() -> ExitCode {
     let arguments: Vec<String> = std::env::args().skip(1).collect();
     let words: Vec<&str> = arguments.iter().map(String::as_str).collect();
-    match run(&words) {
+    match obey(&words) {
         Ok(()) => ExitCode::SUCCESS,
         Err(message) => {
             eprintln!("{message}");
@@ -32,7 +34,7 @@ fn main() -> ExitCode {
     }
 }
 
-fn run(words: &[&str]) -> Result<(), String> {
+fn obey(words: &[&str]) -> Result<(), String> {
     match words {
         ["published", folder] => {
             let all = published::read_folder(Path::new(folder))?;
@@ -47,6 +49,10 @@ fn run(words: &[&str]) -> Result<(), String> {
             let seed = number(seed)?;
             write_stream((0..number(count)?).map(|index| generate::case(seed, index)))
         }
+        ["runs", seed, count] => {
+            let seed = number(seed)?;
+            write_stream((0..number(count)?).map(|index| runs::case(seed, index)))
+        }
         ["answers"] => write_lines(line),
         ["places"] => write_lines(|record| Ok(place_line(record))),
         ["parts"] => write_lines(|record| Ok(parts_line(record))),
@@ -57,18 +63,27 @@ fn run(words: &[&str]) -> Result<(), String> {
             Ok(())
         }
         ["only", operations, size] => {
-            let wanted = operations.split(',').map(number).collect::<Result<Vec<u64>, String>>()?;
+            let wanted = numbers(operations)?;
             let size = number(size)? as usize;
             let kept = |record: &Record| {
                 wanted.contains(&u64::from(record.operation)) && record.body.len() <= size
             };
             write_stream(read_input()?.into_iter().filter(kept))
         }
+        ["pick", wanted] => {
+            let wanted = numbers(wanted)?;
+            let kept = |index: usize| wanted.contains(&(index as u64));
+            let records = read_input()?.into_iter().enumerate();
+            write_stream(records.filter(|(index, _)| kept(*index)).map(|(_, record)| record))
+        }
         ["show", index] => {
             let records = read_input()?;
             let record = records.get(number(index)? as usize).ok_or("there is no such case")?;
             println!("operation {:02x}, {} octets", record.operation, record.body.len());
             println!("{}", hex::write(&record.body));
+            if record.operation == RUN {
+                print!("{}", run::text(&record.body));
+            }
             println!("answer {}\nplace {}", line(record)?, place_line(record));
             Ok(())
         }
@@ -82,6 +97,11 @@ fn run(words: &[&str]) -> Result<(), String> {
 
 fn number(word: &str) -> Result<u64, String> {
     word.parse().map_err(|_| format!("{word} is no number"))
+}
+
+/// Numbers with commas between.
+fn numbers(words: &str) -> Result<Vec<u64>, String> {
+    words.split(',').map(number).collect()
 }
 
 /// Writes a stream to standard output and its counts to standard error.

@@ -3,6 +3,7 @@
 use std::collections::BTreeMap;
 
 use super::record::*;
+use super::run;
 use crate::check::Answer;
 use crate::desk;
 use crate::hex;
@@ -42,6 +43,7 @@ pub fn line(record: &Record) -> Result<String, String> {
             // No answer at all cannot be written as a slip.
             None => "r17".to_string(),
         },
+        (RUN, _) => run::line(body),
         (operation, length) => {
             return Err(format!("no record has operation {operation} and {length} octets"));
         }
@@ -89,7 +91,7 @@ pub fn parts_line(record: &Record) -> String {
         .join(", ")
 }
 
-/// In short what an answer was, for counting.
+/// In short what an answer was, for counting.  A run has more than one.
 fn outcome(record: &Record) -> String {
     let line = line(record).unwrap_or_else(|_| "no record".to_string());
     let first = line.split(' ').next().unwrap_or("");
@@ -129,7 +131,13 @@ pub struct Counts {
 
 impl Counts {
     pub fn add(&mut self, record: &Record) {
-        *self.counts.entry(outcome(record)).or_default() += 1;
+        let outcomes = match record.operation {
+            RUN => run::outcomes(&record.body),
+            _ => vec![outcome(record)],
+        };
+        for outcome in outcomes {
+            *self.counts.entry(outcome).or_default() += 1;
+        }
     }
 
     pub fn of(&self, outcome: &str) -> usize {

@@ -3,6 +3,8 @@
 
 pub mod aim;
 pub mod answers;
+pub mod caches;
+pub mod cards;
 pub mod damage;
 pub mod edges;
 pub mod faults;
@@ -13,6 +15,8 @@ pub mod prng;
 pub mod published;
 pub mod random;
 pub mod record;
+pub mod run;
+pub mod runs;
 pub mod scene;
 pub mod small;
 pub mod table;

@@ -28,7 +28,7 @@ fn buffer(rng: &mut Rng, needed: usize) -> u8 {
 }
 
 /// Breaks the serial of a card, or its fill.
-fn break_card(rng: &mut Rng, octets: &mut [u8]) {
+pub fn break_card(rng: &mut Rng, octets: &mut [u8]) {
     let length = usize::from(octets[40]).min(20);
     match rng.below(5) {
         0 => octets[40] = *rng.pick(&[0, 21, 22, 128, 255]),
@@ -62,13 +62,7 @@ fn answer(rng: &mut Rng) -> Answer {
     let (this_update, next_update) =
         if rng.once_in(6) { (one, one) } else { (one.min(two), one.max(two)) };
     let card = card(rng);
-    match scene::status(rng) {
-        crate::reading::Status::Good => Answer::Good { card, this_update, next_update },
-        crate::reading::Status::Unknown => Answer::Unknown { card, this_update, next_update },
-        crate::reading::Status::Revoked { time, reason } => {
-            Answer::Revoked { card, this_update, next_update, time, reason }
-        }
-    }
+    Answer::accepted(&scene::status(rng), card, this_update, next_update)
 }
 
 /// Eight octets of a time at or past the range.
@@ -85,7 +79,7 @@ pub fn slip_reader(rng: &mut Rng) -> Record {
     Record::new(SLIP_READER, slip)
 }
 
-fn break_slip(rng: &mut Rng, slip: &mut Vec<u8>) {
+pub fn break_slip(rng: &mut Rng, slip: &mut Vec<u8>) {
     if slip.len() == 3 {
         match rng.below(8) {
             0 | 1 => slip[1] = *rng.pick(&[0, 1, 4, 16, 17, 18, 19, 255]),

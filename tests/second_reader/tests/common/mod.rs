@@ -2,6 +2,8 @@
 //! of the library.
 #![allow(dead_code)]
 
+pub mod room;
+
 use second_reader::check::Answer;
 use second_reader::hex;
 use second_reader::layout;
