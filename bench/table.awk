@@ -13,6 +13,7 @@ BEGIN {
 }
 NR == 1 { next }
 $1 == "request" { cost["request", $4] = $5; written[$4] = $6; next }
+$1 == "cache" { cost[$2 $3, $4] = $5; said[$2 $3, $4] = $6; next }
 !($1 in octets) { shape[++shapes] = $1 }
 { octets[$1] = $2; entries[$1] = $3; cost[$1, $4] = $5; said[$1, $4] = $6 }
 END {
@@ -30,6 +31,28 @@ END {
     print ""
     printf "The request for a card, %d octets: desk_request %d; a copy of them: %d by a loop, %d by memcpy\n", written["request"], cost["request", "request"], cost["request", "copy"], cost["request", "memcpy"]
     print ""
+    print "The room\047s cache, 5,568 octets: executed instructions, and how many times one pass over them"
+    print ""
+    printf "%-8s %-34s %9s  %19s  %19s\n", "filled", "card", "one pass", "desk_cache_ask", "desk_cache_file"
+    caches = split("empty half full alike", cache, " ")
+    cards = split("held new", card, " ")
+    worst = 0
+    for (i = 1; i <= caches; i++)
+        for (j = 1; j <= cards; j++) {
+            r = cache[i] card[j]
+            about = card[j] == "new" ? "one that no place has" : cache[i] == "empty" ? "another" : "that of the last filled place"
+            printf "%-8s %-34s %9s", cache[i], about, commas(cost[r, "pass"])
+            for (k = 1; k <= 2; k++) {
+                p = k == 1 ? "cacheask" : "cachefile"
+                printf "  %10s %8.2f", commas(cost[r, p]), times(r, p)
+                if (times(r, p) > worst) worst = times(r, p)
+            }
+            print ""
+        }
+    print ""
+    verdict(worst <= 0.7, sprintf("the cache: at most 0.7 of one pass: %.2f", worst))
+    verdict(times("fullheld", "cacheask") <= 0.5, sprintf("an ask, full: at most half a pass: %.2f", times("fullheld", "cacheask")))
+    verdict(times("emptynew", "cacheask") <= 0.25, sprintf("an ask, empty: at most a quarter of a pass: %.2f", times("emptynew", "cacheask")))
     verdict(times("entries-64", "desk") <= 2, sprintf("64 entries: at most 2 times one pass: %.2f", times("entries-64", "desk")))
     verdict(times("entries-1", "desk") <= 3, sprintf("1 entry, RSA: at most 3 times one pass: %.2f", times("entries-1", "desk")))
     verdict(times("ecdsa-1", "desk") <= 3, sprintf("1 entry, ECDSA: at most 3 times one pass: %.2f", times("ecdsa-1", "desk")))
