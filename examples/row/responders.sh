@@ -23,7 +23,7 @@ stop() {
 responder() {
     ca=$1 signer=$2
     shift 2
-    log=$(mktemp "$ca/responder.XXXXXX")
+    log=$(mktemp -p "$ca")
     openssl ocsp -port 0 -index "$ca/index.txt" -CA "$ca/ca.pem" \
         -rsigner "$ca/$signer.pem" -rkey "$ca/$signer.key" "$@" >"$log" 2>&1 &
     pid=$!

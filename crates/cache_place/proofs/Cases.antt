@@ -1,7 +1,7 @@
 -- What the code knows at each return of a place's functions, and what follows there.
 -- card-none, card-empty, card-short, card-whole; slip-none, slip-short, slip-counted, slip-whole; this-is, next-is,
--- late-not, late-by; end-empty, end-short, end-whole; rest-none, rest-any, rest-other, rest-last; place-none, place-zero,
--- end-inside, end-counted, place-broken, place-tail. A slip that may be filed is in SlipCases.
+-- late-not, late-by; rest-none, rest-any, rest-other, rest-last; place-none, place-zero,
+-- end-inside, place-broken, place-tail. A slip that may be filed is in SlipCases.
 -- Assumes nothing.
 use Prim.Native.Nat.{ℕ, suc, _+_, _-_, _≤_, _<_}
 use native.Mathlib.Omega.{arith}
@@ -97,26 +97,6 @@ module _ (p : List ℕ) where
     unfolding slipIn
     slip-whole = ap (λ (n : ℕ). take n p) q
 
--- ---- where a slip ends
-
-module _ (p : List ℕ) where
-  pub end-empty : length p ≡ 0 → 0 ≡ length (slipIn p)
-  unfolding slipIn
-  end-empty h = go p h
-    where
-      go : (p : List ℕ) → length p ≡ 0 → 0 ≡ length (take (sizeOf 20 (getD p 0 0)) p)
-      go [] h = sym (ap length (take-all (sizeOf 20 0) [] (omega arith)))
-      go (x ∷ p) h = absurd (omega arith)
-
-  module _ (size : ℕ) (q : size ≡ sizeOf 20 (getD p 0 0)) where
-    pub end-short : length p < size → length p ≡ length (slipIn p)
-    unfolding slipIn
-    end-short h = rw (← q) (sym (ap length (take-all size p (omega arith))))
-
-    pub end-whole : size ≤ length p → size ≡ length (slipIn p)
-    unfolding slipIn
-    end-whole h = rw (← q) (sym (length-take-le size p h))
-
 -- ---- the octets behind a slip
 
 module _ (p : List ℕ) (end : ℕ) where
@@ -153,24 +133,19 @@ module _ (p : List ℕ) (end : ℕ) where
 
 -- ---- a place
 
--- a part's first n octets, or all of it where it has fewer, and the rest
-cut-at : (n : ℕ) (p : List ℕ) (end : ℕ) → end ≡ length (take n p)
-    → (end ≤ length p) × (take end p ≡ take n p) × (drop end p ≡ drop n p)
+-- what is behind a part's first n octets, or behind all of it where it has fewer
+cut-at : (n : ℕ) (p : List ℕ) (end : ℕ) → end ≡ length (take n p) → (end ≤ length p) × (drop end p ≡ drop n p)
 cut-at n p end e = go (ltb (length p) n) refl
   where
-    go : (b : Bool) → ltb (length p) n ≡ b
-        → (end ≤ length p) × (take end p ≡ take n p) × (drop end p ≡ drop n p)
+    go : (b : Bool) → ltb (length p) n ≡ b → (end ≤ length p) × (drop end p ≡ drop n p)
     go true q =
         let l = ltb-true (length p) n q in
-        let f : end ≡ length p = e ∙ ap length (take-all n p (omega arith)) in (
-          omega arith,
-          take-all end p (omega arith) ∙ sym (take-all n p (omega arith)),
-          drop-of-length-le p {i = end} (omega arith) ∙ sym (drop-of-length-le p {i = n} (omega arith)),
-        )
+        let f : end ≡ length p = e ∙ ap length (take-all n p (omega arith)) in
+        (omega arith, drop-of-length-le p {i = end} (omega arith) ∙ sym (drop-of-length-le p {i = n} (omega arith)))
     go false q =
         let l = ltb-false (length p) n q in
         let f : end ≡ n = e ∙ length-take-le n p l in
-        (omega arith, ap (λ (k : ℕ). take k p) f, ap (λ (k : ℕ). drop k p) f)
+        (omega arith, ap (λ (k : ℕ). drop k p) f)
 
 module _ (p : List ℕ) where
   pub place-none : length p ≡ 0 → true ≡ placeOk p
@@ -211,22 +186,19 @@ module _ (p : List ℕ) where
         go [] h = absurd (h refl)
         go (x ∷ p) h = rw (ne-eqb x 0 h)
 
-    module _ (end : ℕ) (e : end ≡ length (slipIn p)) where
-      cut : (end ≤ length p) × (take end p ≡ slipIn p) × (drop end p ≡ drop (slipSize (kindAt p)) p)
+    module _ (slip : List ℕ) (e : slip ≡ slipIn p) where
+      cut : (length slip ≤ length p) × (drop (length slip) p ≡ drop (slipSize (kindAt p)) p)
       unfolding slipIn
-      cut = cut-at (slipSize (kindAt p)) p end e
+      cut = cut-at (slipSize (kindAt p)) p (length slip) (ap length e)
 
-      pub end-inside : end ≤ length p
+      pub end-inside : length slip ≤ length p
       end-inside = cut .0
 
-      pub end-counted : end ≡ length (take end p)
-      end-counted = sym (length-take-le end p end-inside)
-
-      module _ (b : Bool) (r : b ≡ isSaid (saysOf (take end p))) where
+      module _ (b : Bool) (r : b ≡ isSaid (saysOf slip)) where
         pub place-broken : not b ≡ true → false ≡ placeOk p
         unfolding placeOk saysAt
-        place-broken f = sym (rw (filled, ← cut .1, ← r, not-true b f))
+        place-broken f = sym (rw (filled, ← e, ← r, not-true b f))
 
-        pub place-tail : not b ≡ false → (t : Bool) → t ≡ allZero (drop end p) → t ≡ placeOk p
+        pub place-tail : not b ≡ false → (t : Bool) → t ≡ allZero (drop (length slip) p) → t ≡ placeOk p
         unfolding placeOk saysAt
-        place-tail f t g = sym (rw (filled, ← cut .1, ← r, not-false b f) (sym (g ∙ ap allZero (cut .2))))
+        place-tail f t g = sym (rw (filled, ← e, ← r, not-false b f) (sym (g ∙ ap allZero (cut .1))))

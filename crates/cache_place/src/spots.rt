@@ -4,23 +4,10 @@ ghost use mathlib.Core.Path.{_≡_};
 ghost use Prim.Native.Nat.{_≤_};
 ghost use lib.ListN.{length, drop};
 ghost use Rattle.answer.specs.Card.{allZero};
-ghost use Rattle.cache_rules.specs.Place.{slipIn, placeOk};
+ghost use Rattle.cache_rules.specs.Place.{placeOk};
 
-// Where the slip of this kind ends in a place: at the place's end where that comes before.
-fn slip_end(p: &[u8]) -> usize
-    ensures { λ r. ⌜ r ≡ length (slipIn (now (p .entry))) ⌝ }
-{
-    if p.len() == 0 {
-        return 0;
-    }
-    let size = slip::size_of(p[0]);
-    if p.len() < size {
-        return p.len();
-    }
-    size
-}
-
-// Whether octets are all zeros: the first is zero, and each of the others is the one before it.
+// Whether octets are all zeros: the first is zero, and each of the others is the one before it. So eight are
+// compared at a time.
 fn zeros(s: &[u8]) -> bool
     ensures { λ r. ⌜ r ≡ allZero (now (s .entry)) ⌝ }
 {
@@ -61,9 +48,9 @@ pub fn place_fits(p: &[u8]) -> bool
     if p[0] == 0 {
         return zeros(p);
     }
-    let size = slip_end(p);
-    if !slips::slip_fits(&p[..size]) {
+    let slip = slips::slip_at(p);
+    if !slips::slip_fits(slip) {
         return false;
     }
-    rest_zero(p, size)
+    rest_zero(p, slip.len())
 }
