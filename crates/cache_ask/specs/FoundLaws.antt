@@ -42,8 +42,8 @@ use Rattle.cache_place.specs.Times.{thisAt, nextAt}
 use Rattle.cache_place.specs.TimesLaws.{place-times}
 use Rattle.cache_places.specs.Evenly.{evenly}
 use Rattle.cache_places.specs.EvenlyLaws.{even-room}
-use Rattle.cache_ask.specs.declared.Found.the-variants.{At, NotHeld, Refused}
-use Rattle.cache_ask.specs.Found.{cardFits, cardForm, missesAt, foundIn, foundOf, toldIn}
+use Rattle.cache_ask.specs.declared.Sought.the-variants.{At, NotHeld, Refused}
+use Rattle.cache_ask.specs.Found.{cardInRange, cardOrZeros, missesAt, foundIn, askFound, toldIn}
 
 -- ---- the card in its slip
 
@@ -58,15 +58,15 @@ module _ (card : Card) (h : Sized 20 card) where
   good-refusal = refl
 
   good-size : length (slipOf (good card)) ≡ 78
-  unfolding slip.shown sizeOf
+  unfolding slip.slipComputes sizeOf
   good-size = slip-length 20 (good card) (λ c. h)
 
   good-card : take 61 (drop 1 (slipOf (good card))) ≡ cardOctets card
   unfolding slipOf bodyOf rowOf rowIn
   good-card = take-at (cardOctets card) (numbersForm (8 ∷ 8 ∷ []) (0 ∷ 0 ∷ [])) 61 (card-length card 20 h)
 
-  pub slip-card : take 61 (drop 1 (outputIn (slipRefusal (good card)) (replicate 78 0) (slipOf (good card)))) ≡ cardForm card
-  unfolding cardForm
+  pub slip-card : take 61 (drop 1 (outputIn (slipRefusal (good card)) (replicate 78 0) (slipOf (good card)))) ≡ cardOrZeros card
+  unfolding cardOrZeros
   slip-card = go (cardOk card) refl
     where
       go : (b : Bool) → cardOk card ≡ b → take 61 (drop 1 (outputIn (slipRefusal (good card)) (replicate 78 0) (slipOf (good card)))) ≡ cond b (cardOctets card) (replicate 61 0)
@@ -80,16 +80,16 @@ module _ (card : Card) (h : Sized 20 card) where
       go false e = rw (good-refusal, e) (ap (λ (x : List ℕ). take 61 (drop 1 x)) (kept-refused 17 (replicate 78 0) (slipOf (good card)) (λ z. omega arith)))
 
   -- its octets are a card in range
-  form-fits : cardOk card ≡ true → cardFits (cardOctets card) ≡ true
-  unfolding cardFits
+  form-fits : cardOk card ≡ true → cardInRange (cardOctets card) ≡ true
+  unfolding cardInRange
   form-fits e =
       let same : cardIn 20 (cardOctets card) ≡ card =
       ap (cardIn 20) (sym (append-nil (cardOctets card))) ∙ card-read card [] 20 h (omega (arith, field-exactly (card .size) (card .serial) .0 e .0)) in
       rw (eq-eqb (length (cardOctets card)) 61 (card-length card 20 h), same) e
 
 -- zeros are none
-zeros-fit : cardFits (replicate 61 0) ≡ false
-unfolding cardFits slip.shown
+zeros-fit : cardInRange (replicate 61 0) ≡ false
+unfolding cardInRange slip.slipComputes
 zeros-fit = refl
 
 -- ---- asking
@@ -142,11 +142,11 @@ module _ (clock : Clock) (s : List ℕ) (o : Octets s) (card : Card) (h : Sized 
         go true q = none (heldAt cardAt (cardOctets card) (roomOf s)) refl (leb-true places (heldAt cardAt (cardOctets card) (roomOf s)) q)
         go false q = there (heldAt cardAt (cardOctets card) (roomOf s)) refl (leb-false places (heldAt cardAt (cardOctets card) (roomOf s)) q)
 
-  pub found-told : toldIn s (foundOf clock (cardForm card) s) ≡ askOf clock card s
-  unfolding foundOf cardForm toldIn
+  pub found-told : toldIn s (askFound clock (cardOrZeros card) s) ≡ askOf clock card s
+  unfolding askFound cardOrZeros toldIn
   found-told = go (isCache s) (clockOk clock) (cardOk card) refl refl refl
     where
-      go : (a b d : Bool) → isCache s ≡ a → clockOk clock ≡ b → cardOk card ≡ d → toldIn s (foundOf clock (cardForm card) s) ≡ askOf clock card s
+      go : (a b d : Bool) → isCache s ≡ a → clockOk clock ≡ b → cardOk card ≡ d → toldIn s (askFound clock (cardOrZeros card) s) ≡ askOf clock card s
       go false b d p q r = rw p (sym (ask-19 clock card s p))
       go true false d p q r = rw (p, q) (sym (ask-clock clock card s p q))
       go true true false p q r = rw (p, q, r, zeros-fit) (sym (ask-card clock card s p q r))

@@ -1,5 +1,5 @@
 // What is told of a card.
-use crate::Found;
+use crate::Sought;
 use crate::finding;
 use answer::Answer;
 use answer::Card;
@@ -10,11 +10,11 @@ use freshness::Clock;
 ghost use mathlib.Core.Path.{_≡_};
 ghost use lib.ListN.{take, drop};
 ghost use Rattle.cache_rules.specs.Cache.{told, askOf};
-ghost use Rattle.cache_ask.specs.Found.{cardForm, toldIn};
+ghost use Rattle.cache_ask.specs.Found.{cardOrZeros, toldIn};
 
 // The card as the slip of a good answer has it, after the kind; zeros where its serial is out of range.
 fn card_slip(card: Card) -> [u8; 78]
-    ensures { λ r. ⌜ take 61 (drop 1 r) ≡ cardForm card ⌝ }
+    ensures { λ r. ⌜ take 61 (drop 1 r) ≡ cardOrZeros card ⌝ }
 {
     let mut slip = [0u8; 78];
     let verdict = Verdict::Good { this: 0, next: 0 };
@@ -33,22 +33,22 @@ fn tell(answer: Answer) -> Told
 }
 
 // What is told of what was found.
-fn tell_found(s: &[u8], found: Found) -> Told
+fn tell_found(s: &[u8], found: Sought) -> Told
     ensures { λ r. ⌜ r ≡ toldIn (now (s .entry)) found ⌝ }
 {
     match found {
-        Found::At(i) => {
+        Sought::At(i) => {
             let p = cache_places::place_at(s, i);
             let slip = cache_place::slip_at(p);
             let answer = slip_read::read_slip(slip);
             tell(answer)
         }
-        Found::NotHeld => {
+        Sought::NotHeld => {
             let asked = Asked::NotHeld;
             let card = answer::empty_card();
             Told { asked, card }
         }
-        Found::Refused(number) => {
+        Sought::Refused(number) => {
             let answer = answer::refuse(number, 0);
             tell(answer)
         }

@@ -1,15 +1,15 @@
 // Where a card's slip stands.
-use crate::Found;
+use crate::Sought;
 use freshness::Clock;
 use freshness::Freshness;
 use freshness::Next;
 ghost use mathlib.Core.Path.{_≡_};
-ghost use Rattle.freshness.specs.Fresh.{refusalOf};
-ghost use Rattle.cache_ask.specs.Found.{cardFits, foundOf, missesAt, foundIn};
+ghost use Rattle.freshness.specs.Fresh.{freshRefusal};
+ghost use Rattle.cache_ask.specs.Found.{cardInRange, askFound, missesAt, foundIn};
 
 // The number of a rule that is missed, or 0.
 fn number_of(fresh: Freshness) -> u8
-    ensures { λ r. ⌜ r ≡ refusalOf fresh ⌝ }
+    ensures { λ r. ⌜ r ≡ freshRefusal fresh ⌝ }
 {
     match fresh {
         Freshness::Fresh => 0,
@@ -32,7 +32,7 @@ fn misses_at(p: &[u8], clock: Clock) -> u8
 
 // Whether octets are a card within document 01's range: 61 of them, with a serial by the serial rule.
 fn card_fits(card: &[u8]) -> bool
-    ensures { λ r. ⌜ r ≡ cardFits (now (card .entry)) ⌝ }
+    ensures { λ r. ⌜ r ≡ cardInRange (now (card .entry)) ⌝ }
 {
     if card.len() != 61 {
         return false;
@@ -42,33 +42,33 @@ fn card_fits(card: &[u8]) -> bool
 }
 
 // What is found in a place, or that there is none at this position.
-fn found_in(s: &[u8], i: usize, clock: Clock) -> Found
+fn found_in(s: &[u8], i: usize, clock: Clock) -> Sought
     ensures { λ r. ⌜ r ≡ foundIn clock (now (s .entry)) i ⌝ }
 {
     if cache_rules::PLACES <= i {
-        return Found::NotHeld;
+        return Sought::NotHeld;
     }
     let p = cache_places::place_at(s, i);
     let missed = misses_at(p, clock);
     if missed == 0 {
-        return Found::At(i);
+        return Sought::At(i);
     }
-    Found::Refused(missed)
+    Sought::Refused(missed)
 }
 
 // Where the slip of a card stands that counts at a time: 19 where the buffer is no cache; 1 where the
 // card, the time or the tolerance is out of range; that it is not held; 15 or 16 by its times.
-pub fn find(s: &[u8], card: &[u8], clock: Clock) -> Found
-    ensures { λ r. ⌜ r ≡ foundOf clock (now (card .entry)) (now (s .entry)) ⌝ }
+pub fn find(s: &[u8], card: &[u8], clock: Clock) -> Sought
+    ensures { λ r. ⌜ r ≡ askFound clock (now (card .entry)) (now (s .entry)) ⌝ }
 {
     if !cache_places::room_fits(s) {
-        return Found::Refused(19);
+        return Sought::Refused(19);
     }
     if !freshness::clock_fits(clock) {
-        return Found::Refused(1);
+        return Sought::Refused(1);
     }
     if !card_fits(card) {
-        return Found::Refused(1);
+        return Sought::Refused(1);
     }
     let i = cache_places::held_at(s, card);
     found_in(s, i, clock)

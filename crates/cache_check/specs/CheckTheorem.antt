@@ -23,7 +23,7 @@ use Rattle.rules.specs.Accepted.{Accepted, NoRefusal}
 use Rattle.rules.specs.RulingLaws.{accepted-exactly, accepted-answer}
 use Rattle.freshness.specs.declared.Clock.{Clock}
 use Rattle.freshness.specs.Clock.{clockOk}
-use Rattle.cache_rules.specs.Place.{places, cardAt, saysAt, isSaid, Whole}
+use Rattle.cache_rules.specs.Place.{places, cardAt, saysAt, isSaid, WholeCard}
 use Rattle.cache_rules.specs.FitLaws.{held-card}
 use Rattle.cache_rules.specs.Cache.{placeIn, isCache, told, saidAt, askOf}
 use Rattle.cache_rules.specs.CacheLaws.{place-octets}
@@ -78,7 +78,7 @@ module _ (q : Question) (name r s : List ℕ) (o : Octets s) (c : isCache s ≡ 
 -- ── nothing about another card ──
 
 -- whatever is told of a card, a refusal apart, is about that card: both hashes, the serial and its length
-pub own-card : (clock : Clock) (card : Card) (s : List ℕ) → Octets s → Whole card
+pub own-card : (clock : Clock) (card : Card) (s : List ℕ) → Octets s → WholeCard card
     → (a : Answer) → NoRefusal (a .verdict) → askOf clock card s ≡ told a → a .card ≡ card
 own-card clock card s o z a n e =
     outcome clock card s o (a .card ≡ card)
@@ -93,5 +93,5 @@ own-card clock card s o z a n e =
     refusal m q = absurd (asking.said-refusal a m (no-refusal-said a n) (sym e ∙ q))
 
 -- two cards that differ in an octet never have one place
-pub one-card : (s : List ℕ) (i : ℕ) (c d : Card) → Whole c → Whole d → cardOk c ≡ true → cardOk d ≡ true → Has s i c → Has s i d → c ≡ d
+pub one-card : (s : List ℕ) (i : ℕ) (c d : Card) → WholeCard c → WholeCard d → cardOk c ≡ true → cardOk d ≡ true → Has s i c → Has s i d → c ≡ d
 one-card s i c d p q f g h l = asking.cards-same c d p q f g (sym (h .1) ∙ l .1)

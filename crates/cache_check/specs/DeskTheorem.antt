@@ -13,10 +13,10 @@ use Rattle.slip.specs.Slip.{slipOf}
 use Rattle.slip.specs.SlipLaws.{read-written}
 use Rattle.rules.specs.Ruling.{answerOf}
 use Rattle.rules.specs.Accepted.{NoRefusal}
-use Rattle.question.specs.Asked.{questionIn, nameIn, questionOk, asked}
-use Rattle.question.specs.AskedLaws.{asked-kept, asked-broken}
-use Rattle.question.specs.FitsLaws.{fits-slip}
-use Rattle.question.specs.SizeLaws.{asked-sized}
+use Rattle.desk_question.specs.Asked.{questionIn, nameIn, questionOk, asked}
+use Rattle.desk_question.specs.AskedLaws.{asked-kept, asked-broken}
+use Rattle.desk_question.specs.FitsLaws.{fits-slip}
+use Rattle.desk_question.specs.SizeLaws.{asked-sized}
 use Rattle.cache_rules.specs.Place.{saysOf}
 
 -- an answer that is no refusal is the check's

@@ -15,10 +15,10 @@ use Rattle.rules.specs.declared.Question.{Question}
 use Rattle.rules.specs.Ruling.{answerOf}
 use Rattle.rules.specs.Accepted.{NoRefusal}
 use Rattle.rules.specs.RulingLaws.{accepted-exactly, accepted-answer}
-use Rattle.question.specs.FitsLaws.{answer-fits}
+use Rattle.desk_question.specs.FitsLaws.{answer-fits}
 use Rattle.freshness.specs.declared.Clock.{Clock}
 use Rattle.cache_rules.specs.declared.Filed.the-variants.{Count, Refused}
-use Rattle.cache_rules.specs.Place.{saysAt, isSaid, placeOf, thisOf, saysOf, Whole}
+use Rattle.cache_rules.specs.Place.{saysAt, isSaid, placeOf, thisOf, saysOf, WholeCard}
 use Rattle.cache_rules.specs.Cache.{placeIn, takes, filingRefusal, filedOf, bufferOf}
 use Rattle.cache_rules.specs.Has.{Has}
 use Rattle.cache_rules.specs.RefusalLaws.{count-accepted}
@@ -71,7 +71,7 @@ module _ (clock : Clock) (s t : List ℕ) (p : Octets s) (o : Octets t) (n : ℕ
       as-the-check-since q name r (bufferOf clock s t) v (takes clock s t) filed-says
       (after-octets clock s t p o) (kept clock s t o n accepted) (takes-one clock s t e)
 
-module _ (q : Question) (name r : List ℕ) (o : Octets r) (n : NoRefusal (answerOf q name r .verdict)) (w : Whole (q .card)) where
+module _ (q : Question) (name r : List ℕ) (o : Octets r) (n : NoRefusal (answerOf q name r .verdict)) (w : WholeCard (q .card)) where
   -- the slip that the desk writes for the answer says the answer
   pub check-slip : saysOf (slipOf (answerOf q name r)) ≡ answerOf q name r
   check-slip =

@@ -16,7 +16,7 @@ use Rattle.rules.specs.Ruling.{answerOf}
 use Rattle.rules.specs.Accepted.{NoRefusal}
 use Rattle.rules.specs.RulingLaws.{accepted-exactly, accepted-answer}
 use Rattle.freshness.specs.declared.Clock.{Clock}
-use Rattle.cache_rules.specs.Place.{places, slipIn, saysAt, Whole}
+use Rattle.cache_rules.specs.Place.{places, slipIn, saysAt, WholeCard}
 use Rattle.cache_rules.specs.PlaceLaws.{read-sized}
 use Rattle.cache_rules.specs.Cache.{placeIn, isCache}
 use Rattle.cache_rules.specs.AskLaws.{told-same}
@@ -28,7 +28,7 @@ use Rattle.cache_check.specs.CheckTheorem.{as-the-check}
 
 module _ (q : Question) (name r s : List ℕ) (n : NoRefusal (answerOf q name r .verdict)) (i : ℕ) (e : saysAt (placeIn s i) ≡ answerOf q name r) where
   -- the card of an accepted question is in range, and one that a slip says has twenty octets in each part
-  question-card : (cardOk (q .card) ≡ true) × Whole (q .card)
+  question-card : (cardOk (q .card) ≡ true) × WholeCard (q .card)
   unfolding saysAt
   question-card =
       let (basic, entry, next, a) = accepted-exactly q name r .0 n in

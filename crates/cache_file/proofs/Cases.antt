@@ -29,7 +29,7 @@ use Rattle.cache_rules.specs.CacheLaws.{cache-exactly}
 use Rattle.cache_rules.specs.RefusalLaws.{refusal-exactly, filed-refused, refused-number}
 use Rattle.cache_place.specs.Times.{thisAt, lateAt}
 use Rattle.cache_places.specs.Evenly.{evenly}
-use Rattle.cache_file.specs.Put.{heldFiled, heldIn, newAt, newFiled, newIn}
+use Rattle.cache_file.specs.Put.{heldFiled, bufferHeld, newAt, newFiled, newIn}
 use Rattle.cache_file.specs.PutLaws.{held-filed, held-left, new-filed, new-left}
 
 -- ---- a slip put into a place
@@ -58,22 +58,22 @@ module _ (s t : List ℕ) (i : ℕ) (h : length t ≤ 87) (place : List ℕ) (e 
 -- ---- a card that has a place
 
 module _ (s t : List ℕ) (i : ℕ) (x : List ℕ) (e : x ≡ getD (evenly s) i []) (this own : ℕ) (f : this ≡ thisAt x) (g : own ≡ thisAt t) where
-  older : own < this → heldIn s i t ≡ s
-  unfolding heldIn
+  older : own < this → bufferHeld s i t ≡ s
+  unfolding bufferHeld
   older h = rw (← e, ← f, ← g, lt-ltb own this h)
 
-  later : this ≤ own → heldIn s i t ≡ putIn s (87 * i) (placeOf t)
-  unfolding heldIn
+  later : this ≤ own → bufferHeld s i t ≡ putIn s (87 * i) (placeOf t)
+  unfolding bufferHeld
   later h = rw (← e, ← f, ← g, le-ltb own this h)
 
-  pub held-older-left : own < this → s ≡ heldIn s i t
+  pub held-older-left : own < this → s ≡ bufferHeld s i t
   held-older-left h = sym (older h)
 
   pub held-older : own < this → (n : ℕ) → n ≡ count cardAt (evenly s) → Count n ≡ heldFiled s i t
   unfolding heldFiled
   held-older h n q = ap Count (q ∙ ap (λ (y : List ℕ). count cardAt (evenly y)) (sym (older h)))
 
-  pub held-put-left : this ≤ own → (after : List ℕ) → after ≡ putIn s (87 * i) (placeOf t) → after ≡ heldIn s i t
+  pub held-put-left : this ≤ own → (after : List ℕ) → after ≡ putIn s (87 * i) (placeOf t) → after ≡ bufferHeld s i t
   held-put-left h after q = q ∙ sym (later h)
 
   pub held-put : this ≤ own → (r : Filed) → r ≡ Count (count cardAt (evenly (putIn s (87 * i) (placeOf t)))) → r ≡ heldFiled s i t
@@ -123,7 +123,7 @@ module _ (clock : Clock) (s t : List ℕ) (known : (i : ℕ) → Fits w8 (getD s
     pub slip-held : i < 64 → (r : Filed) → r ≡ heldFiled s i t → r ≡ filedOf clock s t
     slip-held b r q = q ∙ held-filed clock s t p o c k d i where-held b
 
-    pub slip-held-left : i < 64 → (after : List ℕ) → after ≡ heldIn s i t → after ≡ bufferOf clock s t
+    pub slip-held-left : i < 64 → (after : List ℕ) → after ≡ bufferHeld s i t → after ≡ bufferOf clock s t
     slip-held-left b after q = q ∙ held-left clock s t p o c k d i where-held b
 
     pub slip-new : 64 ≤ i → (r : Filed) → r ≡ newFiled clock s t → r ≡ filedOf clock s t

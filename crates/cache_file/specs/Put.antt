@@ -1,5 +1,5 @@
 -- A filing in parts, over the octets at the places of the times: for a card that has a place, and for one that has none.
--- heldFiled, heldIn; newFiled, newIn.
+-- heldFiled, bufferHeld; newFiled, newIn.
 -- That they are the filing is in PutLaws. Assumes nothing.
 use Prim.Native.Nat.{ℕ, _*_}
 use mathlib.Core.Bool.{cond}
@@ -17,11 +17,11 @@ use Rattle.cache_places.specs.Evenly.{evenly}
 
 module _ (s : List ℕ) (i : ℕ) (t : List ℕ) where
   -- the buffer with the slip in place i, unless the one held is later
-  unfoldable pub heldIn : List ℕ
-  heldIn = cond (ltb (thisAt t) (thisAt (getD (evenly s) i []))) s (putIn s (87 * i) (placeOf t))
+  unfoldable pub bufferHeld : List ℕ
+  bufferHeld = cond (ltb (thisAt t) (thisAt (getD (evenly s) i []))) s (putIn s (87 * i) (placeOf t))
 
   unfoldable pub heldFiled : Filed
-  heldFiled = Count (count cardAt (evenly heldIn))
+  heldFiled = Count (count cardAt (evenly bufferHeld))
 
 module _ (clock : Clock) (s t : List ℕ) where
   -- the first place that may be taken

@@ -31,7 +31,7 @@ use Rattle.cache_place.specs.Times.{thisAt, lateAt}
 use Rattle.cache_place.specs.TimesLaws.{slip-times, place-times, late-stale}
 use Rattle.cache_places.specs.Evenly.{evenly}
 use Rattle.cache_places.specs.EvenlyLaws.{even-room}
-use Rattle.cache_file.specs.Put.{heldFiled, heldIn, newAt, newFiled, newIn}
+use Rattle.cache_file.specs.Put.{heldFiled, bufferHeld, newAt, newFiled, newIn}
 
 module _ (clock : Clock) (s t : List ℕ) (p : Octets s) (o : Octets t) (c : isCache s ≡ true) (k : clockOk clock ≡ true) (d : isSaid (saysOf t) ≡ true) where
   room : evenly s ≡ roomOf s
@@ -88,8 +88,8 @@ module _ (clock : Clock) (s t : List ℕ) (p : Octets s) (o : Octets t) (c : isC
         ap (λ (l : List (List ℕ)). thisAt (getD l i [])) room
         ∙ place-times (placeIn s i) x (full-said (placeIn s i) x (place-fit s i b c) (λ z. card-some t (sym has ∙ z))) .0
 
-    pub held-left : heldIn s i t ≡ bufferOf clock s t
-    unfolding heldIn
+    pub held-left : bufferHeld s i t ≡ bufferOf clock s t
+    unfolding bufferHeld
     held-left = go (ltb (thisAt t) (thisAt (getD (evenly s) i []))) refl
       where
         go : (u : Bool) → ltb (thisAt t) (thisAt (getD (evenly s) i [])) ≡ u → cond u s (putIn s (87 * i) (placeOf t)) ≡ bufferOf clock s t
@@ -102,7 +102,7 @@ module _ (clock : Clock) (s t : List ℕ) (p : Octets s) (o : Octets t) (c : isC
 
     pub held-filed : heldFiled s i t ≡ filedOf clock s t
     unfolding heldFiled
-    held-filed = counted accepted (heldIn s i t) held-left
+    held-filed = counted accepted (bufferHeld s i t) held-left
 
   -- ---- a card that has none
 

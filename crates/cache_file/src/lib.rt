@@ -15,7 +15,7 @@ ghost use Rattle.cache_rules.specs.declared.Filed.the-variants.{Count};
 ghost use Rattle.cache_rules.specs.Place.{cardAt, isSaid, placeOf, saysOf};
 ghost use Rattle.cache_rules.specs.Cache.{isCache, filedOf, bufferOf};
 ghost use Rattle.cache_places.specs.Evenly.{evenly};
-ghost use Rattle.cache_file.specs.Put.{heldFiled, heldIn, newFiled, newIn};
+ghost use Rattle.cache_file.specs.Put.{heldFiled, bufferHeld, newFiled, newIn};
 
 // Puts a slip into a place, with zeros after it, and counts the filled places.
 fn put_at(s: &mut [u8], i: usize, slip: &[u8]) -> Filed
@@ -39,7 +39,7 @@ fn put_held(s: &mut [u8], i: usize, slip: &[u8]) -> Filed
     requires { ⌜ i < 64 ⌝ }
     requires { ⌜ length (now slip) ≤ 87 ⌝ }
     ensures { λ r. ⌜ r ≡ heldFiled (now (s .entry)) i (now (slip .entry)) ⌝ }
-    ensures { λ _. ⌜ now (s .exit) ≡ heldIn (now (s .entry)) i (now (slip .entry)) ⌝ }
+    ensures { λ _. ⌜ now (s .exit) ≡ bufferHeld (now (s .entry)) i (now (slip .entry)) ⌝ }
 {
     let held = cache_places::place_at(s, i);
     let this = cache_place::this_at(held);

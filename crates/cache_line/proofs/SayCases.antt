@@ -4,18 +4,16 @@
 use Prim.Native.Nat.{ℕ, zero, suc, _+_, _≤_, _<_}
 use native.Mathlib.Omega.{arith}
 use mathlib.Core.Path.{_≡_, refl, sym, ap, _∙_}
-use mathlib.Core.Bool.{cond}
 use mathlib.Core.List.{List, [], _∷_, _++_, append-nil}
-use lib.Dec.{ltb}
 use lib.ListN.{length, take, drop, replicate}
 use lib.Seq.{length-take-le}
 use borrow.Author.Tests.{lt-ltb, le-ltb}
-use Rattle.octets.specs.Buffer.{putIn}
+use Rattle.octets.specs.Buffer.{putIn, putSize}
 use Rattle.octets.specs.BufferLaws.{put-in-room, put-in-short, put-in-length, splice-front}
 use Rattle.octets.specs.Number.{octetsOf}
 use Rattle.octets.specs.NumberLaws.{octets-length}
 use Rattle.hex.specs.Hex.{hexLine}
-use Rattle.cache_line.specs.Reply.{numbered, accepted}
+use Rattle.cache_line.specs.Reply.{numbered, acceptedReply}
 use Rattle.cache_line.specs.Wrote.{Wrote}
 
 -- ---- octets handed over
@@ -32,10 +30,10 @@ module _ (new out : List ℕ) where
 
 -- a line that hex wrote is that of other octets that are the same
 hexed : (reply other line : List ℕ) → reply ≡ other → (n : ℕ) (after : List ℕ)
-    → n ≡ cond (ltb (length line) (length (hexLine reply))) 0 (length (hexLine reply)) → after ≡ putIn line 0 (hexLine reply)
+    → n ≡ putSize line (hexLine reply) → after ≡ putIn line 0 (hexLine reply)
     → Wrote line (hexLine other) n after
 hexed reply other line e n after c o = record {
-  count = c ∙ ap (λ (s : List ℕ). cond (ltb (length line) (length (hexLine s))) 0 (length (hexLine s))) e;
+  count = c ∙ ap (λ (s : List ℕ). putSize line (hexLine s)) e;
   octets = o ∙ ap (λ (s : List ℕ). putIn line 0 (hexLine s)) e;
 }
 
@@ -55,7 +53,7 @@ filled out new e =
     rest (suc n) (x ∷ s) h = rest n s (omega arith)
 
 pub number-said : (number : ℕ) (reply line : List ℕ) → reply ≡ putIn (replicate 2 0) 0 (octetsOf 2 number) → (n : ℕ) (after : List ℕ)
-    → n ≡ cond (ltb (length line) (length (hexLine reply))) 0 (length (hexLine reply)) → after ≡ putIn line 0 (hexLine reply)
+    → n ≡ putSize line (hexLine reply) → after ≡ putIn line 0 (hexLine reply)
     → Wrote line (hexLine (numbered number)) n after
 unfolding numbered
 number-said number reply line e = hexed reply (octetsOf 2 number) line (e ∙ filled (replicate 2 0) (octetsOf 2 number) (octets-length 2 number))
@@ -75,12 +73,12 @@ module _ (body reply : List ℕ) (h : length body ≤ 87) (e : reply ≡ putIn (
       ∙ splice-front (replicate 89 0) 2 body (omega arith)
 
   pub body-said : (line : List ℕ) (n : ℕ) (after : List ℕ)
-      → n ≡ cond (ltb (length line) (length (hexLine (take (2 + length body) reply)))) 0 (length (hexLine (take (2 + length body) reply)))
+      → n ≡ putSize line (hexLine (take (2 + length body) reply))
       → after ≡ putIn line 0 (hexLine (take (2 + length body) reply))
-      → Wrote line (hexLine (accepted body)) n after
-  unfolding accepted
+      → Wrote line (hexLine (acceptedReply body)) n after
+  unfolding acceptedReply
   body-said line = hexed (take (2 + length body) reply) (0 ∷ 0 ∷ body) line front
 
 pub count-said : (count : ℕ) (body line : List ℕ) → body ≡ putIn (replicate 1 0) 0 (octetsOf 1 count) → (n : ℕ) (after : List ℕ)
-    → Wrote line (hexLine (accepted body)) n after → Wrote line (hexLine (accepted (octetsOf 1 count))) n after
+    → Wrote line (hexLine (acceptedReply body)) n after → Wrote line (hexLine (acceptedReply (octetsOf 1 count))) n after
 count-said count body line e n after w = rw (e ∙ filled (replicate 1 0) (octetsOf 1 count) (octets-length 1 count)) at w

@@ -1,6 +1,6 @@
 -- The input of the program `room`: an operation, 1 octet; a time and a tolerance, 8 octets each; how many
 -- octets the paper has, 1 octet; the paper; all the rest is the cache. A new cache is asked for by the operation 00 alone.
--- isNew; clockIn, beginsAt, paperIn, cacheIn; inputForm; headerMost, roomLeast.
+-- isNew; clockIn, beginsAt, paperIn, cacheIn; inputForm; headerMost, cacheRoomLeast.
 -- Assumes nothing.
 use Prim.Native.Nat.{ℕ, _+_, _-_, _*_}
 use mathlib.Core.Bool.{Bool, false, cond}
@@ -44,5 +44,5 @@ abbrev pub headerMost : ℕ
 headerMost = 18 + 255
 
 -- the least room: the longest header, a cache, and one octet more
-abbrev pub roomLeast : ℕ
-roomLeast = headerMost + width * places + 1
+abbrev pub cacheRoomLeast : ℕ
+cacheRoomLeast = headerMost + width * places + 1

@@ -1,6 +1,6 @@
 -- What the program `room` answers to an input: the octets whose hex is its line, a number in two octets and
 -- what goes with it; and the octets of the cache that follow the line.
--- numbered, accepted; filedReply, filedCache, foundReply, listReply; replyWith, cacheWith; newCache, replyOf, cacheOf; repliedTo.
+-- numbered, acceptedReply; filedReply, filedCache, foundReply, listReply; replyWith, cacheWith; newCache, replyOf, cacheOf; repliedTo.
 -- The number is 0 for none, a refusal's, or 256 for a card that is not held. The input's parts are in Input; that a beginning
 -- of an input that is long enough is answered as the whole is in WholeLaws; that the line tells what asking gives is in ToldLaws.
 -- Assumes nothing.
@@ -18,9 +18,9 @@ use Rattle.cache_rules.specs.declared.Filed.the-variants as filed
 use Rattle.cache_rules.specs.Place.{width, places, slipIn}
 use Rattle.cache_rules.specs.Cache.{isCache, filedOf, bufferOf}
 use Rattle.cache_places.specs.Evenly.{evenly}
-use Rattle.cache_ask.specs.declared.Found.{Found}
-use Rattle.cache_ask.specs.declared.Found.the-variants.{At, NotHeld, Refused}
-use Rattle.cache_ask.specs.Found.{foundOf}
+use Rattle.cache_ask.specs.declared.Sought.{Sought}
+use Rattle.cache_ask.specs.declared.Sought.the-variants.{At, NotHeld, Refused}
+use Rattle.cache_ask.specs.Found.{askFound}
 use Rattle.cache_line.specs.declared.Reply.{Reply}
 use Rattle.cache_line.specs.Input.{isNew, clockIn, beginsAt, paperIn, cacheIn}
 use Rattle.cache_line.specs.Marks.{marksOf}
@@ -30,14 +30,14 @@ unfoldable pub numbered : ℕ → List ℕ
 numbered n = octetsOf 2 n
 
 -- the number 0, and what goes with it
-unfoldable pub accepted : List ℕ → List ℕ
-accepted body = 0 ∷ 0 ∷ body
+unfoldable pub acceptedReply : List ℕ → List ℕ
+acceptedReply body = 0 ∷ 0 ∷ body
 
 -- ---- each operation
 
 -- 01, a filing: how many places are then not empty
 unfoldable pub filedReply : Filed → List ℕ
-filedReply (filed.Count n) = accepted (octetsOf 1 n)
+filedReply (filed.Count n) = acceptedReply (octetsOf 1 n)
 filedReply (filed.Refused n) = numbered n
 
 -- and the cache as it is then; none where it is refused
@@ -46,8 +46,8 @@ filedCache (filed.Count n) s = s
 filedCache (filed.Refused n) s = []
 
 -- 02, an ask: the slip that the card's place holds
-unfoldable pub foundReply : List ℕ → Found → List ℕ
-foundReply s (At i) = accepted (slipIn (getD (evenly s) i []))
+unfoldable pub foundReply : List ℕ → Sought → List ℕ
+foundReply s (At i) = acceptedReply (slipIn (getD (evenly s) i []))
 foundReply s NotHeld = numbered 256
 foundReply s (Refused n) = numbered n
 
@@ -57,7 +57,7 @@ listReply clock paper s =
     cond (isCache s)
     (cond (clockOk clock)
     (cond (eqb (length paper) 0)
-    (accepted (marksOf clock (evenly s)))
+    (acceptedReply (marksOf clock (evenly s)))
     (numbered 1))
     (numbered 1))
     (numbered 19)
@@ -69,7 +69,7 @@ module _ (operation : ℕ) (clock : Clock) (paper s : List ℕ) where
   unfoldable pub replyWith : List ℕ
   replyWith =
       cond (eqb operation 1) (filedReply (filedOf clock s paper))
-      (cond (eqb operation 2) (foundReply s (foundOf clock paper s))
+      (cond (eqb operation 2) (foundReply s (askFound clock paper s))
       (cond (eqb operation 3) (listReply clock paper s)
       (numbered 1)))
 

@@ -16,7 +16,7 @@ use Rattle.freshness.specs.declared.Clock.{Clock}
 use Rattle.freshness.specs.Clock.{clockOk}
 use Rattle.answer.specs.declared.Card.{Card}
 use Rattle.slip.specs.Slip.{Sized}
-use Rattle.cache_rules.specs.Examples.{shown}
+use Rattle.cache_rules.specs.Examples.{cacheComputes}
 use Rattle.cache_rules.specs.declared.Filed.{Filed}
 use Rattle.cache_rules.specs.declared.Filed.the-variants.{Count, Refused}
 use Rattle.cache_rules.specs.Cache.{roomOf, isCache, filedOf, bufferOf, askOf}
@@ -24,10 +24,10 @@ use Rattle.cache_rules.specs.CacheLaws.{cache-exactly}
 use Rattle.cache_rules.specs.RefusalLaws.{count-accepted}
 use Rattle.cache_rules.specs.FilingLaws.{after-cache}
 use Rattle.cache_places.specs.EvenlyLaws.{even-room}
-use Rattle.cache_ask.specs.Found.{cardForm}
+use Rattle.cache_ask.specs.Found.{cardOrZeros}
 use Rattle.cache_line.specs.Input.{isNew, clockIn, beginsAt, paperIn, cacheIn, inputForm}
 use Rattle.cache_line.specs.Marks.{marksOf}
-use Rattle.cache_line.specs.Reply.{numbered, accepted, filedReply, filedCache, listReply, replyWith, cacheWith, newCache, replyOf, cacheOf}
+use Rattle.cache_line.specs.Reply.{numbered, acceptedReply, filedReply, filedCache, listReply, replyWith, cacheWith, newCache, replyOf, cacheOf}
 use Rattle.cache_line.specs.FormLaws.{form-reply, form-follows}
 use Rattle.cache_line.specs.Told.{toldReply}
 use Rattle.cache_line.specs.ToldLaws.{ask-tells}
@@ -39,7 +39,7 @@ new-answered = (refl, refl)
 
 -- which are a cache
 pub new-fits : isCache newCache ≡ true
-unfolding shown
+unfolding cacheComputes
 new-fits = refl
 
 module _ (clock : Clock) (a : clock .now < 2 ^ 64) (b : clock .tolerance < 2 ^ 64) (s : List ℕ) where
@@ -52,13 +52,13 @@ module _ (clock : Clock) (a : clock .now < 2 ^ 64) (b : clock .tolerance < 2 ^ 6
 
   -- 02: what asking gives, and no cache
   pub ask-answered : Octets s → (card : Card) → Sized 20 card
-      → (replyOf (inputForm 2 clock (cardForm card) s) ≡ toldReply (askOf clock card s)) × (cacheOf (inputForm 2 clock (cardForm card) s) ≡ [])
+      → (replyOf (inputForm 2 clock (cardOrZeros card) s) ≡ toldReply (askOf clock card s)) × (cacheOf (inputForm 2 clock (cardOrZeros card) s) ≡ [])
   unfolding replyWith cacheWith
-  ask-answered o card h = (form-reply 2 clock (cardForm card) s a b ∙ ask-tells clock card s o h, form-follows 2 clock (cardForm card) s a b)
+  ask-answered o card h = (form-reply 2 clock (cardOrZeros card) s a b ∙ ask-tells clock card s o h, form-follows 2 clock (cardOrZeros card) s a b)
 
   -- 03: the marks of a cache's places, and no cache
   pub list-answered : isCache s ≡ true → clockOk clock ≡ true
-      → (replyOf (inputForm 3 clock [] s) ≡ accepted (marksOf clock (roomOf s))) × (cacheOf (inputForm 3 clock [] s) ≡ [])
+      → (replyOf (inputForm 3 clock [] s) ≡ acceptedReply (marksOf clock (roomOf s))) × (cacheOf (inputForm 3 clock [] s) ≡ [])
   unfolding replyWith cacheWith listReply
   list-answered c k = (
     form-reply 3 clock [] s a b ∙ rw (c, k, even-room s (cache-exactly s .0 c .0)),

@@ -28,12 +28,12 @@ use Rattle.cache_rules.specs.Cache.{isCache, filedOf}
 use Rattle.cache_rules.specs.CacheLaws.{cache-exactly}
 use Rattle.cache_places.specs.Evenly.{evenly}
 use Rattle.cache_places.specs.EvenlyLaws.{even-length}
-use Rattle.cache_ask.specs.declared.Found.{Found}
-use Rattle.cache_ask.specs.declared.Found.the-variants.{At, NotHeld, Refused}
-use Rattle.cache_ask.specs.Found.{foundOf}
+use Rattle.cache_ask.specs.declared.Sought.{Sought}
+use Rattle.cache_ask.specs.declared.Sought.the-variants.{At, NotHeld, Refused}
+use Rattle.cache_ask.specs.Found.{askFound}
 use Rattle.cache_line.specs.Input.{isNew, clockIn, beginsAt, paperIn, cacheIn}
 use Rattle.cache_line.specs.Marks.{marksOf}
-use Rattle.cache_line.specs.Reply.{numbered, accepted, filedReply, foundReply, listReply, replyWith, replyOf, cacheOf}
+use Rattle.cache_line.specs.Reply.{numbered, acceptedReply, filedReply, foundReply, listReply, replyWith, replyOf, cacheOf}
 use Rattle.cache_line.specs.Wrote.{Wrote}
 use Rattle.cache_line.specs.RoomTheorem.{follows-fits}
 
@@ -69,8 +69,8 @@ number-size : (n : ℕ) → length (numbered n) ≤ 89
 unfolding numbered
 number-size n = omega (arith, octets-length 2 n)
 
-body-size : (s : List ℕ) → length s ≤ 87 → length (accepted s) ≤ 89
-unfolding accepted
+body-size : (s : List ℕ) → length s ≤ 87 → length (acceptedReply s) ≤ 89
+unfolding acceptedReply
 body-size s h = omega arith
 
 marks-length : (clock : Clock) (l : List (List ℕ)) → length (marksOf clock l) ≡ length l
@@ -83,7 +83,7 @@ unfolding filedReply
 filed-size (filed.Count n) = body-size (octetsOf 1 n) (omega (arith, octets-length 1 n))
 filed-size (filed.Refused n) = number-size n
 
-found-size : (s : List ℕ) (f : Found) → length (foundReply s f) ≤ 89
+found-size : (s : List ℕ) (f : Sought) → length (foundReply s f) ≤ 89
 unfolding foundReply
 found-size s (At i) = body-size (slipIn (getD (evenly s) i [])) (slip-most (getD (evenly s) i []))
 found-size s NotHeld = number-size 256
@@ -93,7 +93,7 @@ list-size : (clock : Clock) (paper s : List ℕ) → length (listReply clock pap
 unfolding listReply
 list-size clock paper s = go (isCache s) (clockOk clock) (eqb (length paper) 0)
   where
-    go : (a b c : Bool) → length (cond a (cond b (cond c (accepted (marksOf clock (evenly s))) (numbered 1)) (numbered 1)) (numbered 19)) ≤ 89
+    go : (a b c : Bool) → length (cond a (cond b (cond c (acceptedReply (marksOf clock (evenly s))) (numbered 1)) (numbered 1)) (numbered 19)) ≤ 89
     go false b c = number-size 19
     go true false c = number-size 1
     go true true false = number-size 1
@@ -104,10 +104,10 @@ unfolding replyWith
 with-size operation clock paper s = go (eqb operation 1) (eqb operation 2) (eqb operation 3)
   where
     go : (a b c : Bool)
-        → length (cond a (filedReply (filedOf clock s paper)) (cond b (foundReply s (foundOf clock paper s)) (cond c (listReply clock paper s) (numbered 1))))
+        → length (cond a (filedReply (filedOf clock s paper)) (cond b (foundReply s (askFound clock paper s)) (cond c (listReply clock paper s) (numbered 1))))
         ≤ 89
     go true b c = filed-size (filedOf clock s paper)
-    go false true c = found-size s (foundOf clock paper s)
+    go false true c = found-size s (askFound clock paper s)
     go false false true = list-size clock paper s
     go false false false = number-size 1
 

@@ -11,12 +11,12 @@ use Rattle.slip.specs.Slip.{slipOf}
 use Rattle.cache_rules.specs.declared.Asked.{Asked}
 use Rattle.cache_rules.specs.declared.Asked.the-variants.{NotHeld, Says}
 use Rattle.cache_rules.specs.declared.Told.{Told}
-use Rattle.cache_line.specs.Reply.{numbered, accepted}
+use Rattle.cache_line.specs.Reply.{numbered, acceptedReply}
 
 -- the slip of an answer about a card; a refusal's number; 256 for a card that is not held
 unfoldable pub askedReply : Asked → Card → List ℕ
 askedReply NotHeld card = numbered 256
-askedReply (Says v) card = cond (ltb (kindOf v) 4) (accepted (slipOf (record { verdict = v; card = card }))) (numbered (numberOf v))
+askedReply (Says v) card = cond (ltb (kindOf v) 4) (acceptedReply (slipOf (record { verdict = v; card = card }))) (numbered (numberOf v))
 
 unfoldable pub toldReply : Told → List ℕ
 toldReply t = askedReply (t .asked) (t .card)

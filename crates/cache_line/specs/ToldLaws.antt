@@ -33,12 +33,12 @@ use Rattle.cache_rules.specs.AskTheorem.{three}
 use Rattle.cache_place.specs.TimesLaws.{place-times, late-stale}
 use Rattle.cache_places.specs.Evenly.{evenly}
 use Rattle.cache_places.specs.EvenlyLaws.{even-length, even-room}
-use Rattle.cache_ask.specs.declared.Found.{Found}
-use Rattle.cache_ask.specs.declared.Found.the-variants.{At, NotHeld, Refused}
-use Rattle.cache_ask.specs.Found.{cardFits, cardForm, missesAt, foundIn, foundOf, toldIn}
+use Rattle.cache_ask.specs.declared.Sought.{Sought}
+use Rattle.cache_ask.specs.declared.Sought.the-variants.{At, NotHeld, Refused}
+use Rattle.cache_ask.specs.Found.{cardInRange, cardOrZeros, missesAt, foundIn, askFound, toldIn}
 use Rattle.cache_ask.specs.FoundLaws.{found-told}
 use Rattle.cache_line.specs.Marks.{markAt, marksOf}
-use Rattle.cache_line.specs.Reply.{numbered, accepted, foundReply}
+use Rattle.cache_line.specs.Reply.{numbered, acceptedReply, foundReply}
 use Rattle.cache_line.specs.Told.{askedReply, toldReply, askedMark, toldMark}
 
 -- ---- an ask
@@ -52,8 +52,8 @@ module _ (clock : Clock) (c s : List ℕ) where
   m = missesAt clock (getD (evenly s) h [])
 
   -- a place that was found is one of a cache, and has the card
-  found-has : (i : ℕ) → foundOf clock c s ≡ At i → (isCache s ≡ true) × (i < places) × (cardAt (getD (evenly s) i []) ≡ c) × (c ≡ [] → ⊥)
-  unfolding foundOf cardFits foundIn
+  found-has : (i : ℕ) → askFound clock c s ≡ At i → (isCache s ≡ true) × (i < places) × (cardAt (getD (evenly s) i []) ≡ c) × (c ≡ [] → ⊥)
+  unfolding askFound cardInRange foundIn
   found-has i e = go (isCache s) (clockOk clock) (eqb (length c) 61) (cardOk (cardIn 20 c)) refl refl e
     where
       inner : (q : isCache s ≡ true) → length c ≡ 61 → (a b : Bool) → leb 64 h ≡ a → cond a NotHeld (cond b (At h) (Refused m)) ≡ At i
@@ -75,7 +75,7 @@ module _ (clock : Clock) (c s : List ℕ) where
       go true true true true q l e = inner q (eqb-true (length c) 61 l) (leb 64 h) (eqb m 0) refl e
 
   -- the reply by what is told of what was found
-  found-reply : Octets s → (f : Found) → foundOf clock c s ≡ f → foundReply s f ≡ toldReply (toldIn s f)
+  found-reply : Octets s → (f : Sought) → askFound clock c s ≡ f → foundReply s f ≡ toldReply (toldIn s f)
   unfolding foundReply toldReply askedReply toldIn told notHeld isSaid refused
   found-reply o NotHeld e = refl
   found-reply o (Refused n) e = refl
@@ -87,14 +87,14 @@ module _ (clock : Clock) (c s : List ℕ) where
       rw r (slip (placeIn s i) k (held-slip (placeIn s i) x k .0))
     where
       slip : (p : List ℕ) → isSaid (saysAt p) ≡ true → slipOf (saysAt p) ≡ slipIn p
-          → accepted (slipIn p) ≡ cond (isSaid (saysAt p)) (accepted (slipOf (saysAt p))) (numbered (numberOf (saysAt p .verdict)))
-      slip p k l = rw k (ap accepted (sym l))
+          → acceptedReply (slipIn p) ≡ cond (isSaid (saysAt p)) (acceptedReply (slipOf (saysAt p))) (numbered (numberOf (saysAt p .verdict)))
+      slip p k l = rw k (ap acceptedReply (sym l))
 
 -- the line of an ask is that of what asking gives
 pub ask-tells : (clock : Clock) (card : Card) (s : List ℕ) → Octets s → Sized 20 card
-    → foundReply s (foundOf clock (cardForm card) s) ≡ toldReply (askOf clock card s)
+    → foundReply s (askFound clock (cardOrZeros card) s) ≡ toldReply (askOf clock card s)
 ask-tells clock card s o h =
-    found-reply clock (cardForm card) s o (foundOf clock (cardForm card) s) refl ∙ ap toldReply (found-told clock s o card h)
+    found-reply clock (cardOrZeros card) s o (askFound clock (cardOrZeros card) s) refl ∙ ap toldReply (found-told clock s o card h)
 
 -- ---- a list
 

@@ -1,7 +1,7 @@
 -- The program answers what is kept of an input as it would answer the whole input: where not all of it is kept, the cache is
 -- longer than 5,568 octets either way, and the answer is 19 or 1 whatever its octets are.
 -- kept-same-reply, kept-same-cache.
--- What is kept is in crate intake (Kept), the room in Input, the answer in Reply. Assumes nothing.
+-- What is kept is in crate desk_intake (Kept), the room in Input, the answer in Reply. Assumes nothing.
 use Prim.Native.Nat.{ℕ, _+_, _*_, _≤_, _<_}
 use native.Mathlib.Omega.{arith}
 use mathlib.Core.Path.{_≡_, refl, sym, ap, _∙_}
@@ -14,16 +14,16 @@ use borrow.Author.Tests.{ne-eqb, le-ltb, leb-true, leb-false}
 use Rattle.octets.specs.Octets.{Octets}
 use Rattle.octets.specs.OctetsLaws.{octets-at}
 use Rattle.freshness.specs.declared.Clock.{Clock}
-use Rattle.intake.specs.Kept.{keptOf}
-use Rattle.intake.specs.KeptLaws.{kept-all}
+use Rattle.desk_intake.specs.Kept.{keptOf}
+use Rattle.desk_intake.specs.KeptLaws.{kept-all}
 use Rattle.cache_rules.specs.declared.Filed.{Filed}
 use Rattle.cache_rules.specs.declared.Filed.the-variants as filed
 use Rattle.cache_rules.specs.Place.{width, places}
 use Rattle.cache_rules.specs.Cache.{isCache, filedOf, bufferOf}
 use Rattle.cache_rules.specs.RefusalLaws.{refusal-exactly, refused-number}
-use Rattle.cache_ask.specs.declared.Found.the-variants.{Refused}
-use Rattle.cache_ask.specs.Found.{foundOf}
-use Rattle.cache_line.specs.Input.{isNew, clockIn, beginsAt, paperIn, cacheIn, roomLeast}
+use Rattle.cache_ask.specs.declared.Sought.the-variants.{Refused}
+use Rattle.cache_ask.specs.Found.{askFound}
+use Rattle.cache_line.specs.Input.{isNew, clockIn, beginsAt, paperIn, cacheIn, cacheRoomLeast}
 use Rattle.cache_line.specs.Reply.{numbered, filedReply, filedCache, foundReply, listReply, replyWith, cacheWith, replyOf, cacheOf}
 
 -- ---- octets that are longer than a cache
@@ -40,8 +40,8 @@ module _ (operation : ℕ) (clock : Clock) (paper s : List ℕ) (h : width * pla
   filing : filedOf clock s paper ≡ filed.Refused 19
   filing = refused-number clock s paper 19 (λ z. omega arith) .1 (refusal-exactly clock s paper .0 .1 none)
 
-  asking : foundOf clock paper s ≡ Refused 19
-  unfolding foundOf
+  asking : askFound clock paper s ≡ Refused 19
+  unfolding askFound
   asking = rw none
 
   listing : listReply clock paper s ≡ numbered 19
@@ -62,7 +62,7 @@ module _ (operation : ℕ) (clock : Clock) (paper s : List ℕ) (h : width * pla
 
 -- ---- an input that is as long as the room
 
-module _ (s : List ℕ) (h : roomLeast ≤ length s) (o : getD s 17 0 < 256) where
+module _ (s : List ℕ) (h : cacheRoomLeast ≤ length s) (o : getD s 17 0 < 256) where
   begins : beginsAt s ≡ 18 + getD s 17 0
   unfolding beginsAt
   begins = rw (le-ltb (length s) 18 (omega arith), le-ltb (length s) (18 + getD s 17 0) (omega arith))
@@ -87,9 +87,9 @@ module _ (s : List ℕ) (h : roomLeast ≤ length s) (o : getD s 17 0 < 256) whe
 
 -- ---- what is kept of an input
 
-module _ (room : ℕ) (l : List ℕ) (h : roomLeast ≤ room) (o : Octets (keptOf room l)) where
+module _ (room : ℕ) (l : List ℕ) (h : cacheRoomLeast ≤ room) (o : Octets (keptOf room l)) where
   module _ (k : room ≤ length l) where
-    size : roomLeast ≤ length (keptOf room l)
+    size : cacheRoomLeast ≤ length (keptOf room l)
     unfolding keptOf
     size = omega (arith, length-take-le room l k)
 

@@ -5,15 +5,15 @@ use Prim.Native.Nat.{ℕ}
 use mathlib.Core.Path.{_≡_}
 use mathlib.Core.Bool.{cond}
 use mathlib.Core.List.{List}
-use lib.Dec.{eqb, ltb}
+use lib.Dec.{eqb}
 use lib.ListN.{length}
-use Rattle.octets.specs.Buffer.{putIn}
+use Rattle.octets.specs.Buffer.{putIn, putSize}
 use Rattle.freshness.specs.declared.Clock.{Clock}
 use Rattle.cache_rules.specs.Cache.{bufferOf}
 
 -- the new octets stand at the buffer's start, and n is how many they are; or 0, and the buffer is as it was
 pub record Wrote (before new : List ℕ) (n : ℕ) (after : List ℕ) : Type 0 where
-  pub count : n ≡ cond (ltb (length before) (length new)) 0 (length new)
+  pub count : n ≡ putSize before new
   pub octets : after ≡ putIn before 0 new
 
 -- a copy in which a slip was filed: as it was where the octets are not as many as a cache has

@@ -4,7 +4,7 @@ use crate::Reply;
 use crate::lists;
 use crate::parts;
 use crate::says;
-use cache_ask::Found;
+use cache_ask::Sought;
 use cache_rules::Filed;
 use freshness::Clock;
 ghost use mathlib.Core.Path.{_≡_};
@@ -12,7 +12,7 @@ ghost use lib.ListN.{length};
 ghost use Rattle.octets.specs.Buffer.{putIn};
 ghost use Rattle.hex.specs.Hex.{hexLine};
 ghost use Rattle.cache_rules.specs.Cache.{filedOf};
-ghost use Rattle.cache_ask.specs.Found.{foundOf};
+ghost use Rattle.cache_ask.specs.Found.{askFound};
 ghost use Rattle.cache_line.specs.Reply.{numbered, newCache, filedReply, filedCache, foundReply, listReply};
 ghost use Rattle.cache_line.specs.Reply.{replyWith, cacheWith, replyOf, cacheOf, repliedTo};
 ghost use Rattle.cache_line.specs.Wrote.{Wrote, copyAfter};
@@ -80,17 +80,18 @@ fn answer_file(s: &[u8], slip: &[u8], clock: Clock, line: &mut [u8], cache: &mut
 
 // Asks the cache for the card that the paper is: the slip of its place, or a number.
 fn answer_ask(s: &[u8], card: &[u8], clock: Clock, line: &mut [u8]) -> usize
-    ensures { λ r. ⌜ Wrote (now (line .entry)) (hexLine (foundReply (now (s .entry)) (foundOf clock (now (card .entry)) (now (s .entry))))) r (now (line .exit)) ⌝ }
+    ensures { λ r. ⌜ Wrote (now (line .entry)) (hexLine (foundReply (now (s .entry)) (askFound clock (now (card .entry)) (now (s .entry))))) r
+        (now (line .exit)) ⌝ }
 {
     let found = cache_ask::find(s, card, clock);
     match found {
-        Found::At(i) => {
+        Sought::At(i) => {
             let p = cache_places::place_at(s, i);
             let slip = cache_place::slip_at(p);
             says::say_body(slip, line)
         }
-        Found::NotHeld => says::say_number(256, line),
-        Found::Refused(number) => says::say_number(number as u64, line),
+        Sought::NotHeld => says::say_number(256, line),
+        Sought::Refused(number) => says::say_number(number as u64, line),
     }
 }
 

@@ -3,7 +3,7 @@ ghost use Prim.Native.Nat.{_≤_};
 ghost use lib.ListN.{length};
 ghost use Rattle.octets.specs.Number.{octetsOf};
 ghost use Rattle.hex.specs.Hex.{hexLine};
-ghost use Rattle.cache_line.specs.Reply.{numbered, accepted};
+ghost use Rattle.cache_line.specs.Reply.{numbered, acceptedReply};
 ghost use Rattle.cache_line.specs.Wrote.{Wrote};
 
 // Writes octets at the start of a buffer: how many, or 0 where there is no room for them.
@@ -29,7 +29,7 @@ pub(crate) fn say_number(number: u64, line: &mut [u8]) -> usize
 // Writes the line of the number 0 and of octets after it, no more than a place has.
 pub(crate) fn say_body(body: &[u8], line: &mut [u8]) -> usize
     requires { ⌜ length (now body) ≤ 87 ⌝ }
-    ensures { λ r. ⌜ Wrote (now (line .entry)) (hexLine (accepted (now (body .entry)))) r (now (line .exit)) ⌝ }
+    ensures { λ r. ⌜ Wrote (now (line .entry)) (hexLine (acceptedReply (now (body .entry)))) r (now (line .exit)) ⌝ }
 {
     let mut reply = [0u8; 2 + cache_rules::WIDTH];
     octets::put(&mut reply, 2, body);
@@ -39,7 +39,7 @@ pub(crate) fn say_body(body: &[u8], line: &mut [u8]) -> usize
 
 // Writes the line of the number 0 and a count in two digits.
 pub(crate) fn say_count(count: usize, line: &mut [u8]) -> usize
-    ensures { λ r. ⌜ Wrote (now (line .entry)) (hexLine (accepted (octetsOf 1 count))) r (now (line .exit)) ⌝ }
+    ensures { λ r. ⌜ Wrote (now (line .entry)) (hexLine (acceptedReply (octetsOf 1 count))) r (now (line .exit)) ⌝ }
 {
     let mut body = [0u8; 1];
     octets::put_number(&mut body, 0, 1, count as u64);

@@ -5,22 +5,22 @@
 use Prim.Native.Nat.{ℕ, suc, _≤_}
 use native.Mathlib.Omega.{arith}
 use mathlib.Core.Path.{_≡_, refl, sym, ap, _∙_}
-use mathlib.Core.Bool.{Bool, true, false, cond, not}
+use mathlib.Core.Bool.{Bool, true, false, not}
 use mathlib.Core.List.{List, [], _∷_}
 use lib.Dec.{eqb, leb}
-use lib.ListN.{length, getD, take, drop}
+use lib.ListN.{length, getD}
 use borrow.Author.Tests.{le-leb, eq-eqb, ne-eqb, eqb-true, eqb-false, not-true, not-false}
+use Rattle.calendar.specs.Time.{lastSecond}
 use Rattle.octets.specs.SameLaws.{impossible}
 use Rattle.answer.specs.declared.Reason.the-variants.{Given}
-use Rattle.answer.specs.Card.{fieldOk}
 use Rattle.fields.specs.Field.{valueAt}
 use Rattle.slip.specs.Numbers.{total}
-use Rattle.slip.specs.Rules.{lastTime, timesOk, reasonOk}
+use Rattle.slip.specs.Rules.{timesOk, reasonFits}
 use Rattle.slip.specs.Table.{Row, reasonFrom, rowIn, rowOf, bodySize, sizeOf, goodRow, revokedRow, unknownRow}
 use Rattle.slip.specs.TableLaws.{row-good, row-revoked, row-unknown, row-refusal, row-none}
 use Rattle.cache_rules.specs.Place.{isSaid, saysOf}
 use Rattle.cache_place.specs.Times.{thisAt, nextAt}
-use Rattle.cache_place.specs.Said.{serialFits, timesFit, endFits, rulesFit, saidAt}
+use Rattle.cache_place.specs.Said.{serialFits, timesFit, endFits, rulesFit, slipSaid}
 use Rattle.cache_place.specs.SaidLaws.{said-at}
 
 -- a kind with a card: how long its slips are
@@ -47,7 +47,7 @@ module _ (t : List ℕ) where
   -- ---- what a revoked slip has more
 
   module _ (at : ℕ) (p : at ≡ valueAt t 78 8) (b : Bool) (q : b ≡ timesOk 0 at) where
-    in-time : b ≡ leb (valueAt t 78 8) lastTime
+    in-time : b ≡ leb (valueAt t 78 8) lastSecond
     unfolding timesOk
     in-time = q ∙ rw (le-leb 0 at (omega arith), p)
 
@@ -57,10 +57,10 @@ module _ (t : List ℕ) where
 
     module _ (h : not b ≡ false) where
       pub end-absent : getD t 86 0 ≡ 255 → true ≡ endFits t
-      unfolding endFits reasonFrom reasonOk
+      unfolding endFits reasonFrom reasonFits
       end-absent e = sym (rw (← in-time, not-false b h, eq-eqb (getD t 86 0) 255 e))
 
-      pub end-given : (getD t 86 0 ≡ 255 → ⊥) → (r : Bool) → r ≡ reasonOk (Given (getD t 86 0)) → r ≡ endFits t
+      pub end-given : (getD t 86 0 ≡ 255 → ⊥) → (r : Bool) → r ≡ reasonFits (Given (getD t 86 0)) → r ≡ endFits t
       unfolding endFits reasonFrom
       end-given e r g = g ∙ sym (rw (← in-time, not-false b h, ne-eqb (getD t 86 0) 255 e))
 
@@ -94,7 +94,7 @@ module _ (t : List ℕ) where
   -- ---- a slip that may be filed
 
   pub slip-none : length t ≡ 0 → false ≡ isSaid (saysOf t)
-  unfolding saidAt rowOf rowIn
+  unfolding slipSaid rowOf rowIn
   slip-none h = go t h
     where
       go : (t : List ℕ) → length t ≡ 0 → false ≡ isSaid (saysOf t)
@@ -103,17 +103,17 @@ module _ (t : List ℕ) where
 
   module _ (b : Bool) (p : b ≡ rowOf (getD t 0 0) .carded) where
     pub slip-other : not b ≡ true → false ≡ isSaid (saysOf t)
-    unfolding saidAt
+    unfolding slipSaid
     slip-other h = sym (said-at t ∙ rw (← p, not-true b h))
 
     module _ (h : not b ≡ false) (size : ℕ) (q : size ≡ sizeOf 20 (getD t 0 0)) where
       pub slip-size : (length t ≡ size → ⊥) → false ≡ isSaid (saysOf t)
-      unfolding saidAt
+      unfolding slipSaid
       slip-size n = sym (said-at t ∙ rw (← p, not-false b h, ← q, ne-eqb (length t) size n))
 
       module _ (e : length t ≡ size) where
         pub slip-rules : (r : Bool) → r ≡ rulesFit t → r ≡ isSaid (saysOf t)
-        unfolding saidAt
+        unfolding slipSaid
         slip-rules r g = g ∙ sym (said-at t ∙ rw (← p, not-false b h, ← q, eq-eqb (length t) size e))
 
         pub slip-room : (78 ≤ length t) × (getD t 0 0 ≡ 2 → 87 ≤ length t)

@@ -1,14 +1,15 @@
 -- A slip that may be filed, as the octets at their places have it.
--- serialFits, timesFit, endFits, rulesFit, saidAt. That this is what a slip says is in SaidLaws.
+-- serialFits, timesFit, endFits, rulesFit, slipSaid. That this is what a slip says is in SaidLaws.
 -- Assumes nothing.
 use Prim.Native.Nat.{ℕ}
 use mathlib.Core.Bool.{Bool, true, false, cond}
 use mathlib.Core.List.{List}
 use lib.Dec.{eqb, leb}
 use lib.ListN.{length, getD, take, drop}
+use Rattle.calendar.specs.Time.{lastSecond}
 use Rattle.answer.specs.Card.{fieldOk}
 use Rattle.fields.specs.Field.{valueAt}
-use Rattle.slip.specs.Rules.{lastTime, timesOk, reasonOk}
+use Rattle.slip.specs.Rules.{timesOk, reasonFits}
 use Rattle.slip.specs.Table.{reasonFrom, rowOf}
 use Rattle.cache_rules.specs.Place.{slipSize, kindAt}
 use Rattle.cache_place.specs.Times.{thisAt, nextAt}
@@ -22,12 +23,12 @@ timesFit t = timesOk (thisAt t) (nextAt t)
 
 -- what a revoked slip has more: revocationTime, and the reason's octet
 unfoldable pub endFits : List ℕ → Bool
-endFits t = cond (leb (valueAt t 78 8) lastTime) (reasonOk (reasonFrom (getD t 86 0))) false
+endFits t = cond (leb (valueAt t 78 8) lastSecond) (reasonFits (reasonFrom (getD t 86 0))) false
 
 -- the serial, the times and, where it is revoked, the end keep the rules
 unfoldable pub rulesFit : List ℕ → Bool
 rulesFit t = cond (serialFits t) (cond (timesFit t) (cond (eqb (kindAt t) 2) (endFits t) true) false) false
 
 -- a slip with a card, of its kind's length, that keeps them
-unfoldable pub saidAt : List ℕ → Bool
-saidAt t = cond (rowOf (kindAt t) .carded) (cond (eqb (length t) (slipSize (kindAt t))) (rulesFit t) false) false
+unfoldable pub slipSaid : List ℕ → Bool
+slipSaid t = cond (rowOf (kindAt t) .carded) (cond (eqb (length t) (slipSize (kindAt t))) (rulesFit t) false) false

@@ -1,32 +1,33 @@
 -- The law of a slip that may be filed: what the octets at their places have is what the slip says.
 -- said-at.
 -- The definitions are in Said. Assumes nothing.
-use Prim.Native.Nat.{ℕ, suc, _+_, _≤_, _<_}
+use Prim.Native.Nat.{ℕ, suc, _+_, _≤_}
 use native.Mathlib.Omega.{arith}
 use mathlib.Core.Path.{_≡_, refl, sym, ap, ap₂, _∙_}
 use mathlib.Core.Bool.{Bool, true, false, cond}
 use mathlib.Core.List.{List, [], _∷_}
 use lib.Dec.{eqb, leb, lit≤}
-use lib.ListN.{length, getD, take, drop}
+use lib.ListN.{length, getD, drop}
 use borrow.Author.Tests.{eqb-true, eqb-false, eq-eqb, ne-eqb}
+use Rattle.calendar.specs.Time.{lastSecond}
 use Rattle.answer.specs.declared.Card.{Card}
 use Rattle.answer.specs.declared.Answer.{Answer}
 use Rattle.answer.specs.declared.Reason.{Reason}
 use Rattle.answer.specs.declared.Verdict.{Verdict}
 use Rattle.answer.specs.declared.Verdict.the-variants.{Good, Revoked, Unknown, Refused}
 use Rattle.answer.specs.Card.{fieldOk, cardOk}
-use Rattle.answer.specs.Verdict.{kindOf, refused}
+use Rattle.answer.specs.Verdict.{refused}
 use Rattle.fields.specs.Field.{valueAt, cardIn}
 use Rattle.fields.specs.FieldLaws.{field-there, value-there}
 use Rattle.slip.specs.Numbers.{total, numbersIn}
-use Rattle.slip.specs.Rules.{lastTime, timesOk, reasonOk, verdictOk}
+use Rattle.slip.specs.Rules.{timesOk, reasonFits, verdictOk}
 use Rattle.slip.specs.Table.{Row, reasonFrom, rowIn, rowOf, cardSize, bodySize, sizeOf, goodRow, revokedRow, unknownRow, refusalRow, noRow}
 use Rattle.slip.specs.TableLaws.{row-good, row-revoked, row-unknown, row-refusal, row-none}
 use Rattle.slip.specs.Slip.{cardFits, slipOk, verdictIn, cardUnder, parsedAs, parsed, readOf}
 use Rattle.slip.specs.PlaceLaws.{octet-at, good-at, unknown-at, revoked-at}
 use Rattle.cache_rules.specs.Place.{isSaid, saysOf}
 use Rattle.cache_place.specs.Times.{thisAt, nextAt}
-use Rattle.cache_place.specs.Said.{serialFits, timesFit, endFits, rulesFit, saidAt}
+use Rattle.cache_place.specs.Said.{serialFits, timesFit, endFits, rulesFit, slipSaid}
 
 -- an answer, its rules looked at
 abbrev said : Answer → Bool
@@ -70,9 +71,9 @@ module _ (this next : ℕ) (card : Card) where
   said-unknown = swap (timesOk this next) (cardOk card)
 
   said-revoked : (at : ℕ) (reason : Reason) → said (record { verdict = Revoked this next at reason; card = card })
-      ≡ cond (cardOk card) (cond (timesOk this next) (cond (leb at lastTime) (reasonOk reason) false) false) false
+      ≡ cond (cardOk card) (cond (timesOk this next) (cond (leb at lastSecond) (reasonFits reason) false) false) false
   unfolding slipOk cardFits isSaid rowOf rowIn verdictOk
-  said-revoked at reason = swap (cond (timesOk this next) (cond (leb at lastTime) (reasonOk reason) false) false) (cardOk card)
+  said-revoked at reason = swap (cond (timesOk this next) (cond (leb at lastSecond) (reasonFits reason) false) false) (cardOk card)
 
 -- ---- a body behind its kind
 
@@ -104,8 +105,8 @@ module _ (kind : ℕ) (s : List ℕ) where
 
   -- by the row of its kind
   by-row : (r : Row) → rowOf kind ≡ r → r .carded ≡ true → (length s ≡ bodySize 20 r → said (answer r) ≡ rulesFit t)
-      → said (parsedAs 20 (rowOf kind) s) ≡ saidAt t
-  unfolding parsedAs saidAt sizeOf
+      → said (parsedAs 20 (rowOf kind) s) ≡ slipSaid t
+  unfolding parsedAs slipSaid sizeOf
   by-row r e c h =
       rw e (go (eqb (length s) (bodySize 20 r)) refl ∙ first (r .carded) (cond (eqb (suc (length s)) (suc (bodySize 20 r))) (rulesFit t) false) c)
     where
@@ -124,7 +125,7 @@ module _ (kind : ℕ) (s : List ℕ) where
   unfolding rulesFit
   two-times a e n l = e ∙ rw (serial-at (omega arith), times-at l, ne-eqb kind 2 n, ← whole (timesFit t))
 
-  by-good : kind ≡ 1 → said (parsedAs 20 (rowOf kind) s) ≡ saidAt t
+  by-good : kind ≡ 1 → said (parsedAs 20 (rowOf kind) s) ≡ slipSaid t
   unfolding bodySize total cardUnder
   by-good e =
       by-row goodRow (row-good kind e) refl (λ l. two-times (answer goodRow) (
@@ -132,7 +133,7 @@ module _ (kind : ℕ) (s : List ℕ) where
       ∙ said-good (valueAt s 61 8) (valueAt s 69 8) (cardIn 20 s)
       ) (λ z. omega arith) (omega arith))
 
-  by-unknown : kind ≡ 3 → said (parsedAs 20 (rowOf kind) s) ≡ saidAt t
+  by-unknown : kind ≡ 3 → said (parsedAs 20 (rowOf kind) s) ≡ slipSaid t
   unfolding bodySize total cardUnder
   by-unknown e =
       by-row unknownRow (row-unknown kind e) refl (λ l. two-times (answer unknownRow) (
@@ -140,7 +141,7 @@ module _ (kind : ℕ) (s : List ℕ) where
       ∙ said-unknown (valueAt s 61 8) (valueAt s 69 8) (cardIn 20 s)
       ) (λ z. omega arith) (omega arith))
 
-  by-revoked : kind ≡ 2 → said (parsedAs 20 (rowOf kind) s) ≡ saidAt t
+  by-revoked : kind ≡ 2 → said (parsedAs 20 (rowOf kind) s) ≡ slipSaid t
   unfolding bodySize total cardUnder endFits rulesFit
   by-revoked e =
       by-row revokedRow (row-revoked kind e) refl (λ l.
@@ -149,8 +150,8 @@ module _ (kind : ℕ) (s : List ℕ) where
       ∙ rw (serial-at (omega arith), times-at (omega arith), value-at 77 (omega arith), eq-eqb kind 2 e))
 
   -- a kind without a card
-  by-other : (kind ≡ 1 → ⊥) → (kind ≡ 2 → ⊥) → (kind ≡ 3 → ⊥) → said (parsedAs 20 (rowOf kind) s) ≡ saidAt t
-  unfolding parsedAs saidAt verdictIn
+  by-other : (kind ≡ 1 → ⊥) → (kind ≡ 2 → ⊥) → (kind ≡ 3 → ⊥) → said (parsedAs 20 (rowOf kind) s) ≡ slipSaid t
+  unfolding parsedAs slipSaid verdictIn
   by-other a b c = go (eqb kind 4) refl
     where
       refusals : (r : Row) (b : Bool) (number status : ℕ) → r .says (numbersIn (r .widths) (drop (cardSize 20 r) s)) ≡ Refused number status
@@ -159,25 +160,25 @@ module _ (kind : ℕ) (s : List ℕ) where
           ap (λ (v : Verdict). said (record { verdict = v; card = cardUnder 20 r s })) e ∙ said-refusal number status (cardUnder 20 r s)
       refusals r false number status e = said-refused
 
-      go : (d : Bool) → eqb kind 4 ≡ d → said (parsedAs 20 (rowOf kind) s) ≡ saidAt t
+      go : (d : Bool) → eqb kind 4 ≡ d → said (parsedAs 20 (rowOf kind) s) ≡ slipSaid t
       go true q = rw (row-refusal kind (eqb-true kind 4 q)) (refusals refusalRow (eqb (length s) (bodySize 20 refusalRow)) _ _ refl)
       go false q = rw (row-none kind a b c (eqb-false kind 4 q)) (refusals (noRow kind) (eqb (length s) (bodySize 20 (noRow kind))) 17 0 refl)
 
-  by-kind : said (parsedAs 20 (rowOf kind) s) ≡ saidAt t
+  by-kind : said (parsedAs 20 (rowOf kind) s) ≡ slipSaid t
   by-kind = go (eqb kind 1) (eqb kind 2) (eqb kind 3) refl refl refl
     where
-      go : (a b c : Bool) → eqb kind 1 ≡ a → eqb kind 2 ≡ b → eqb kind 3 ≡ c → said (parsedAs 20 (rowOf kind) s) ≡ saidAt t
+      go : (a b c : Bool) → eqb kind 1 ≡ a → eqb kind 2 ≡ b → eqb kind 3 ≡ c → said (parsedAs 20 (rowOf kind) s) ≡ slipSaid t
       go true b c p q r = by-good (eqb-true kind 1 p)
       go false true c p q r = by-revoked (eqb-true kind 2 q)
       go false false true p q r = by-unknown (eqb-true kind 3 r)
       go false false false p q r = by-other (eqb-false kind 1 p) (eqb-false kind 2 q) (eqb-false kind 3 r)
 
-none-at : saidAt [] ≡ false
-unfolding saidAt rowOf rowIn
+none-at : slipSaid [] ≡ false
+unfolding slipSaid rowOf rowIn
 none-at = refl
 
 -- what the octets at their places have is what the slip says
-pub said-at : (t : List ℕ) → isSaid (saysOf t) ≡ saidAt t
+pub said-at : (t : List ℕ) → isSaid (saysOf t) ≡ slipSaid t
 unfolding parsed
 said-at [] = said-read [] ∙ said-refused ∙ sym none-at
 said-at (kind ∷ s) = said-read (kind ∷ s) ∙ by-kind kind s

@@ -1,7 +1,7 @@
 -- The octets at the places of the times are the times that the slip says, whatever follows it.
 -- slip-times, place-times, late-stale.
 -- The definitions are in Times. Assumes nothing.
-use Prim.Native.Nat.{ℕ, _+_, _^_, _≤_, _<_}
+use Prim.Native.Nat.{ℕ, _+_, _≤_, _<_}
 use native.Mathlib.Omega.{arith}
 use mathlib.Core.Path.{_≡_, refl, sym, ap, _∙_}
 use mathlib.Core.Bool.{Bool, true, false, cond}
@@ -10,21 +10,19 @@ use lib.Dec.{leb, lit≤}
 use lib.ListN.{length, take, drop, length-append, take-append-drop}
 use lib.Seq.{take-at, drop-at, drop-drop}
 use borrow.Author.Tests.{leb-true}
+use Rattle.calendar.specs.Time.{lastSecond}
 use Rattle.octets.specs.Octets.{Octets}
 use Rattle.octets.specs.OctetsLaws.{octets-take}
 use Rattle.octets.specs.Number.{valueOf, octetsOf}
 use Rattle.octets.specs.NumberLaws.{octets-length, value-octets}
 use Rattle.freshness.specs.declared.Clock.{Clock}
-use Rattle.answer.specs.declared.Card.{Card}
-use Rattle.answer.specs.declared.Reason.{Reason}
 use Rattle.answer.specs.declared.Verdict.{Verdict}
 use Rattle.answer.specs.declared.Verdict.the-variants.{Good, Revoked, Unknown, Refused}
-use Rattle.answer.specs.declared.Answer.{Answer}
 use Rattle.answer.specs.Verdict.{kindOf, valuesOf, reasonOf}
 use Rattle.fields.specs.Field.{valueAt}
 use Rattle.fields.specs.FieldLaws.{value-there}
 use Rattle.slip.specs.Numbers.{numbersForm}
-use Rattle.slip.specs.Rules.{lastTime, timesOk, verdictOk, reasonOk}
+use Rattle.slip.specs.Rules.{timesOk, verdictOk, reasonFits}
 use Rattle.slip.specs.RulesLaws.{both}
 use Rattle.slip.specs.Table.{rowIn, rowOf}
 use Rattle.slip.specs.Slip.{cardOctets, bodyOf, slipOf}
@@ -37,7 +35,7 @@ use Rattle.cache_place.specs.Times.{thisAt, nextAt, lateAt}
 
 -- ---- two numbers after a kind and a card
 
-module _ (kind this next : ℕ) (card rest : List ℕ) (l : length card ≡ 61) (a : this ≤ lastTime) (b : next ≤ lastTime) where
+module _ (kind this next : ℕ) (card rest : List ℕ) (l : length card ≡ 61) (a : this ≤ lastSecond) (b : next ≤ lastSecond) where
   abbrev numbers : List ℕ
   numbers = octetsOf 8 this ++ (octetsOf 8 next ++ rest)
 
@@ -84,18 +82,18 @@ begins (Revoked this next at reason) h = (octetsOf 8 at ++ (octetsOf 1 (reasonOf
 begins (Unknown this next) h = ([], refl)
 begins (Refused number status) h = absurd (omega arith)
 
-in-time : (this next : ℕ) → timesOk this next ≡ true → (this ≤ lastTime) × (next ≤ lastTime)
+in-time : (this next : ℕ) → timesOk this next ≡ true → (this ≤ lastSecond) × (next ≤ lastSecond)
 unfolding timesOk
 in-time this next e =
-    let q = both (leb this next) (leb next lastTime) e in
+    let q = both (leb this next) (leb next lastSecond) e in
     let a = leb-true this next (q .0) in
-    let b = leb-true next lastTime (q .1) in
+    let b = leb-true next lastSecond (q .1) in
     (omega arith, b)
 
-times-last : (v : Verdict) → verdictOk v ≡ true → (thisOf v ≤ lastTime) × (nextOf v ≤ lastTime)
+times-last : (v : Verdict) → verdictOk v ≡ true → (thisOf v ≤ lastSecond) × (nextOf v ≤ lastSecond)
 unfolding verdictOk
 times-last (Good this next) e = in-time this next e
-times-last (Revoked this next at reason) e = in-time this next (both (timesOk this next) (cond (leb at lastTime) (reasonOk reason) false) e .0)
+times-last (Revoked this next at reason) e = in-time this next (both (timesOk this next) (cond (leb at lastSecond) (reasonFits reason) false) e .0)
 times-last (Unknown this next) e = in-time this next e
 times-last (Refused number status) e = (omega arith, omega arith)
 

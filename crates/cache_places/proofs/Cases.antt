@@ -18,7 +18,7 @@ use mir.Syntax.{w64}
 use Rattle.octets.specs.Same.{sameOf}
 use Rattle.freshness.specs.declared.Clock.{Clock}
 use Rattle.fields.specs.Field.{valueAt}
-use Rattle.cache_room.specs.Room.{isEmpty, heldAt, isFree, single}
+use Rattle.cache_room.specs.Room.{isEmpty, heldAt, isFree, cardsOnce}
 use Rattle.cache_rules.specs.Place.{cardAt}
 use Rattle.cache_rules.specs.Cache.{allFit, isCache}
 use Rattle.cache_place.specs.Times.{lateAt}
@@ -97,6 +97,6 @@ module _ (s : List ℕ) where
     unfolding isCache
     room-broken t = sym (rw (eq-eqb (length s) 5568 h, ← even-room s h, ← e, not-true b t))
 
-    pub room-fit : not b ≡ false → (r : Bool) → r ≡ single cardAt (evenly s) → r ≡ isCache s
+    pub room-fit : not b ≡ false → (r : Bool) → r ≡ cardsOnce cardAt (evenly s) → r ≡ isCache s
     unfolding isCache
     room-fit t r g = sym (rw (eq-eqb (length s) 5568 h, ← even-room s h, ← e, not-false b t) (sym g))

@@ -14,7 +14,7 @@ use lib.Seq.{length-take-le, getD-take, getD-set-same, getD-set-other}
 use borrow.Author.Tests.{eqb-true, eqb-false, le-leb, leb-true, leb-false, not-true, not-false}
 use Rattle.octets.specs.Same.{sameOf}
 use Rattle.octets.specs.SameLaws.{impossible, same-true, same-false}
-use Rattle.cache_room.specs.Room.{isEmpty, heldAt, single}
+use Rattle.cache_room.specs.Room.{isEmpty, heldAt, cardsOnce}
 use Rattle.cache_room.specs.FirstLaws.{held-card, held-there, held-none}
 use Rattle.cache_room.specs.SingleLaws.{single-true, single-from}
 use Rattle.cache_rules.specs.Place.{cardAt}
@@ -148,7 +148,7 @@ module _ (s : List ℕ) where
         go false false u v = a j k (omega (arith, eqb-false j i u)) (omega (arith, eqb-false k i v)) c n
 
     -- its card is in one before
-    twice : loneOf (evenly s) i ≡ false → single cardAt (evenly s) ≡ true → ⊥
+    twice : loneOf (evenly s) i ≡ false → cardsOnce cardAt (evenly s) ≡ true → ⊥
     unfolding loneOf
     twice t y = go (isEmpty cardAt (getD (evenly s) i [])) refl t
       where
@@ -164,13 +164,13 @@ module _ (s : List ℕ) where
             (λ z. same-false (cardAt (getD (evenly s) i [])) [] q (sym c ∙ z)) in
             omega arith
 
-    pub apart-stop : not r ≡ true → false ≡ single cardAt (evenly s)
-    apart-stop t = go (single cardAt (evenly s)) refl
+    pub apart-stop : not r ≡ true → false ≡ cardsOnce cardAt (evenly s)
+    apart-stop t = go (cardsOnce cardAt (evenly s)) refl
       where
-        go : (y : Bool) → single cardAt (evenly s) ≡ y → false ≡ single cardAt (evenly s)
+        go : (y : Bool) → cardsOnce cardAt (evenly s) ≡ y → false ≡ cardsOnce cardAt (evenly s)
         go true q = absurd (twice (sym e ∙ not-true r t) q)
         go false q = sym q
 
-  pub apart-end : (i : ℕ) → 64 ≤ i → Apart i → true ≡ single cardAt (evenly s)
+  pub apart-end : (i : ℕ) → 64 ≤ i → Apart i → true ≡ cardsOnce cardAt (evenly s)
   unfolding Apart
   apart-end i h a = sym (single-from cardAt [] (evenly s) (λ j k p q. a j k (omega (arith, even-length s)) (omega (arith, even-length s))))

@@ -4,7 +4,7 @@ ghost use mathlib.Core.Path.{_≡_};
 ghost use Prim.Native.Nat.{suc, _<_};
 ghost use lib.ListN.{length, getD};
 ghost use mathlib.Core.List.{[]};
-ghost use Rattle.cache_room.specs.Room.{single};
+ghost use Rattle.cache_room.specs.Room.{cardsOnce};
 ghost use Rattle.cache_rules.specs.Place.{cardAt};
 ghost use Rattle.cache_rules.specs.Cache.{allFit, isCache};
 ghost use Rattle.cache_places.specs.Evenly.{evenly};
@@ -62,7 +62,7 @@ fn lone(s: &[u8], i: usize, marks: &mut [u8]) -> bool
 
 // Whether no card stands in two places.
 fn cards_differ(s: &[u8]) -> bool
-    ensures { λ r. ⌜ r ≡ single cardAt (evenly (now (s .entry))) ⌝ }
+    ensures { λ r. ⌜ r ≡ cardsOnce cardAt (evenly (now (s .entry))) ⌝ }
 {
     let mut marks = [0u8; 1021];
     let mut i = 0;

@@ -9,7 +9,7 @@ use mathlib.Core.List.{List, [], _∷_}
 use lib.Dec.{eqb, leb, ltb}
 use Rattle.octets.specs.Same.{sameOf}
 use Rattle.cache_room.specs.Parts.{partsOf}
-use Rattle.cache_room.specs.Room.{firstAt, heldAt, single, count, freeAt, takenAt, keptIn, filedIn}
+use Rattle.cache_room.specs.Room.{firstAt, heldAt, cardsOnce, count, freeAt, takenAt, keptIn, filedIn}
 
 abbrev card : ℕ → List ℕ
 card x = cond (eqb x 0) [] (x % 10 ∷ [])
@@ -58,8 +58,8 @@ unfolding takenAt heldAt freeAt firstAt sameOf
 none = refl
 
 -- a card twice; two empty places are none
-twice : single card (31 ∷ 0 ∷ 0 ∷ 41 ∷ []) ≡ false
-unfolding single heldAt firstAt sameOf
+twice : cardsOnce card (31 ∷ 0 ∷ 0 ∷ 41 ∷ []) ≡ false
+unfolding cardsOnce heldAt firstAt sameOf
 twice = refl
 
 counted : count card (31 ∷ 0 ∷ 0 ∷ 42 ∷ []) ≡ 2

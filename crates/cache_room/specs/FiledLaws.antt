@@ -1,6 +1,6 @@
 -- Laws of a filing: what its place holds, that no other changes, that the card is then held there, and that no card is
 -- then held twice.
--- kept-held, kept-new, kept-either, kept-card; filed-length, filed-same, filed-at, filed-single, filed-held.
+-- kept-held, kept-new, kept-either, kept-card; filed-length, filed-same, filed-at, filed-single.
 -- The definitions are in Room. The place is in TakenLaws, other cards in OtherLaws, the count in CountLaws.
 -- Assumes nothing.
 use Prim.Native.Nat.{ℕ, _≤_, _<_}
@@ -113,10 +113,3 @@ module _ {A : Type 0} (card : A → List ℕ) (stale : A → Bool) (wins : A →
                 let x = filed-same i (eqb-false i k a) in
                 let y = filed-same j (eqb-false j k b′) in
                 s i j (inside i p) (inside j q) (ap card (sym x) ∙ e ∙ ap card y) (λ z. m (ap card x ∙ z))
-
-        -- the card is held at the place taken
-        pub filed-held : heldAt card (card new) (filedIn card stale wins new l) ≡ takenAt card stale (card new) l
-        filed-held =
-            rw filed-card
-            at
-            (held-single card d (filedIn card stale wins new l) filed-single (takenAt card stale (card new) l) (rw filed-length b) (λ z. n (sym filed-card ∙ z)))

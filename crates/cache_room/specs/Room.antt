@@ -1,5 +1,5 @@
 -- A room: a list of places, and a filing into it (document 02, C-11).
--- firstAt; isEmpty, hasCard, heldAt, again, single, count; isFree, freeAt, takenAt; winner, keptIn, filedIn.
+-- firstAt; isEmpty, hasCard, heldAt, again, cardsOnce, count; isFree, freeAt, takenAt; winner, keptIn, filedIn.
 -- A place has a card ([] where it is empty), may be stale, and may win over another of its card.
 -- Their laws are in FirstLaws, SingleLaws, TakenLaws, FiledLaws, OtherLaws and CountLaws. Assumes nothing.
 use Prim.Native.Nat.{ℕ, suc}
@@ -32,9 +32,9 @@ module _ {A : Type 0} (card : A → List ℕ) where
   again x l = cond (isEmpty x) false (ltb (heldAt (card x) l) (length l))
 
   -- no card stands in two places
-  unfoldable pub single : List A → Bool
-  single [] = true
-  single (x ∷ l) = cond (again x l) false (single l)
+  unfoldable pub cardsOnce : List A → Bool
+  cardsOnce [] = true
+  cardsOnce (x ∷ l) = cond (again x l) false (cardsOnce l)
 
   -- how many places are not empty
   unfoldable pub count : List A → ℕ

@@ -11,7 +11,7 @@ use lib.Dec.{ltb}
 use lib.ListN.{length, getD}
 use borrow.Author.Tests.{ltb-true, lt-ltb}
 use Rattle.octets.specs.SameLaws.{impossible, same-true, same-false}
-use Rattle.cache_room.specs.Room.{isEmpty, heldAt, again, single}
+use Rattle.cache_room.specs.Room.{isEmpty, heldAt, again, cardsOnce}
 use Rattle.cache_room.specs.FirstLaws.{held-card, held-there}
 
 module _ {A : Type 0} (card : A → List ℕ) (d : A) where
@@ -37,25 +37,25 @@ module _ {A : Type 0} (card : A → List ℕ) (d : A) where
           let b = ltb-true (heldAt card (card x) l) (length l) e in
           (heldAt card (card x) l, b, held-card card (card x) d l b, same-false (card x) [] q)
 
-  pub single-true : (l : List A) → single card l ≡ true → Single l
-  unfolding single
+  pub single-true : (l : List A) → cardsOnce card l ≡ true → Single l
+  unfolding cardsOnce
   single-true [] e = λ i j a b s n. absurd (not-suc-le-zero a)
   single-true (x ∷ l) e = go (again card x l) refl (λ r. single-true l r) e
     where
-      go : (t : Bool) → again card x l ≡ t → (single card l ≡ true → Single l) → cond t false (single card l) ≡ true → Single (x ∷ l)
+      go : (t : Bool) → again card x l ≡ t → (cardsOnce card l ≡ true → Single l) → cond t false (cardsOnce card l) ≡ true → Single (x ∷ l)
       go true q r e i j a b s n = impossible e
       go false q r e zero zero a b s n = refl
       go false q r e zero (suc j) a b s n = impossible (sym q ∙ again-true x l j (le-of-suc-le-suc b) s n)
       go false q r e (suc i) zero a b s n = impossible (sym q ∙ again-true x l i (le-of-suc-le-suc a) (sym s) (λ z. n (s ∙ z)))
       go false q r e (suc i) (suc j) a b s n = ap suc (r e i j (le-of-suc-le-suc a) (le-of-suc-le-suc b) s n)
 
-  pub single-from : (l : List A) → Single l → single card l ≡ true
-  unfolding single
+  pub single-from : (l : List A) → Single l → cardsOnce card l ≡ true
+  unfolding cardsOnce
   single-from [] h = refl
   single-from (x ∷ l) h =
       go (again card x l) refl (single-from l (λ i j a b s n. let e : suc i ≡ suc j = h (suc i) (suc j) (suc-le-suc a) (suc-le-suc b) s n in omega arith))
     where
-      go : (t : Bool) → again card x l ≡ t → single card l ≡ true → cond t false (single card l) ≡ true
+      go : (t : Bool) → again card x l ≡ t → cardsOnce card l ≡ true → cond t false (cardsOnce card l) ≡ true
       go true q r =
           let (j, b, s, n) = again-where x l q in
           let e : _≡_ {A = ℕ} 0 (suc j) = h 0 (suc j) (zero-lt-suc (length l)) (suc-le-suc b) (sym s) n in

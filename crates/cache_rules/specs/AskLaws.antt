@@ -8,7 +8,7 @@ use mathlib.Core.Path.{_≡_, sym, ap, _∙_}
 use mathlib.Core.Bool.{true, false}
 use mathlib.Core.List.{List, [], _++_}
 use borrow.Author.Tests.{lt-ltb, le-ltb, ne-eqb}
-use Rattle.freshness.specs.Fresh.{refusalOf}
+use Rattle.freshness.specs.Fresh.{freshRefusal}
 use Rattle.freshness.specs.FreshLaws.{fresh-early, fresh-late, fresh-within}
 use Rattle.answer.specs.declared.Card.{Card}
 use Rattle.answer.specs.declared.Answer.{Answer}
@@ -97,11 +97,11 @@ module _ (clock : Clock) (a : Answer) (o : thisOf (a .verdict) ≤ nextOf (a .ve
 
   pub said-early : clock .now < this → saidAt clock a ≡ refused 15 0
   unfolding missedAt
-  said-early h = said-by 15 (ap refusalOf (fresh-early this next (clock .now) (clock .tolerance) o h)) (λ z. omega arith)
+  said-early h = said-by 15 (ap freshRefusal (fresh-early this next (clock .now) (clock .tolerance) o h)) (λ z. omega arith)
 
   pub said-late : this ≤ clock .now → next + clock .tolerance < clock .now → saidAt clock a ≡ refused 16 0
   unfolding missedAt
-  said-late b h = said-by 16 (ap refusalOf (fresh-late this next (clock .now) (clock .tolerance) o b h)) (λ z. omega arith)
+  said-late b h = said-by 16 (ap freshRefusal (fresh-late this next (clock .now) (clock .tolerance) o b h)) (λ z. omega arith)
 
   pub said-within : this ≤ clock .now → clock .now ≤ next + clock .tolerance → saidAt clock a ≡ a
   unfolding saidAt missedAt

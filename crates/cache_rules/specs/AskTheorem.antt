@@ -20,7 +20,7 @@ use Rattle.answer.specs.Verdict.{refused}
 use Rattle.slip.specs.Slip.{cardOctets, slipOf}
 use Rattle.freshness.specs.Clock.{clockOk}
 use Rattle.freshness.specs.declared.Clock.{Clock}
-use Rattle.cache_rules.specs.Place.{width, places, slipSize, kindAt, slipIn, saysAt, isSaid, thisOf, nextOf, staleAt, isStale, Whole}
+use Rattle.cache_rules.specs.Place.{width, places, slipSize, kindAt, slipIn, saysAt, isSaid, thisOf, nextOf, staleAt, isStale, WholeCard}
 use Rattle.cache_rules.specs.Cache.{placeIn, isCache, told, notHeld, saidAt, askOf}
 use Rattle.cache_rules.specs.FitLaws.{held-card, held-slip}
 use Rattle.cache_rules.specs.CacheLaws.{place-at, place-octets}
@@ -30,7 +30,7 @@ use Rattle.cache_rules.specs.Has.{Has}
 use Rattle.cache_rules.specs.OtherCardLaws.{place-own}
 
 -- a place of a cache has a card exactly if its slip is about that card
-pub has-exactly : (s : List ℕ) (i : ℕ) (card : Card) → Octets s → isCache s ≡ true → Whole card → cardOk card ≡ true
+pub has-exactly : (s : List ℕ) (i : ℕ) (card : Card) → Octets s → isCache s ≡ true → WholeCard card → cardOk card ≡ true
     → Has s i card ↔ (i < places) × (isSaid (saysAt (placeIn s i)) ≡ true) × (saysAt (placeIn s i) .card ≡ card)
 has-exactly s i card o c z f = (
   λ (b, h).

@@ -10,7 +10,7 @@ use mathlib.Core.List.{List, [], _∷_, flatten}
 use lib.Dec.{eqb, ltb}
 use lib.ListN.{length, getD}
 use Rattle.freshness.specs.Clock.{clockOk}
-use Rattle.freshness.specs.Fresh.{freshOf, refusalOf}
+use Rattle.freshness.specs.Fresh.{freshOf, freshRefusal}
 use Rattle.freshness.specs.declared.Next.the-variants.{At}
 use Rattle.answer.specs.declared.Card.{Card}
 use Rattle.answer.specs.declared.Verdict.{Verdict}
@@ -19,7 +19,7 @@ use Rattle.answer.specs.Card.{emptyCard, cardOk}
 use Rattle.answer.specs.Verdict.{refused}
 use Rattle.slip.specs.Slip.{cardOctets}
 use Rattle.cache_room.specs.Parts.{partsOf}
-use Rattle.cache_room.specs.Room.{heldAt, single, count, takenAt, filedIn}
+use Rattle.cache_room.specs.Room.{heldAt, cardsOnce, count, takenAt, filedIn}
 use Rattle.freshness.specs.declared.Clock.{Clock}
 use Rattle.cache_rules.specs.declared.Filed.{Filed}
 use Rattle.cache_rules.specs.declared.Filed.the-variants.{Count, Refused}
@@ -43,7 +43,7 @@ allFit (p ∷ l) = cond (placeOk p) (allFit l) false
 
 -- exactly 64 places of 87 octets, each of which fits, and no card in two of them
 unfoldable pub isCache : List ℕ → Bool
-isCache s = cond (eqb (length s) (width * places)) (cond (allFit (roomOf s)) (single cardAt (roomOf s)) false) false
+isCache s = cond (eqb (length s) (width * places)) (cond (allFit (roomOf s)) (cardsOnce cardAt (roomOf s)) false) false
 
 -- ---- filing a slip
 
@@ -86,7 +86,7 @@ notHeld = record { asked = NotHeld; card = emptyCard }
 
 -- the number of the rule that a slip's times miss at a time, by the check's own judgement, or 0
 unfoldable pub missedAt : Clock → Verdict → ℕ
-missedAt clock v = refusalOf (freshOf (thisOf v) (At (nextOf v)) (clock .now) (clock .tolerance))
+missedAt clock v = freshRefusal (freshOf (thisOf v) (At (nextOf v)) (clock .now) (clock .tolerance))
 
 -- what a slip's answer is at a time: refused where its times miss a rule, else as it stands
 unfoldable pub saidAt : Clock → Answer → Answer

@@ -14,7 +14,7 @@ use Rattle.octets.specs.Octets.{Octets}
 use Rattle.octets.specs.OctetsLaws.{octets-take, octets-drop}
 use Rattle.slip.specs.RulesLaws.{both}
 use Rattle.cache_room.specs.PartsLaws.{parts-length, part-at}
-use Rattle.cache_room.specs.Room.{single}
+use Rattle.cache_room.specs.Room.{cardsOnce}
 use Rattle.cache_room.specs.SingleLaws.{Single, single-true, single-from}
 use Rattle.cache_rules.specs.Place.{width, places, cardAt, placeOk}
 use Rattle.cache_rules.specs.Cache.{roomOf, placeIn, allFit, isCache}
@@ -48,8 +48,8 @@ pub cache-exactly : (s : List ℕ) → isCache s ≡ true ↔ (length s ≡ widt
 unfolding isCache
 cache-exactly s = (
   λ e.
-      let p = both (eqb (length s) (width * places)) (cond (allFit (roomOf s)) (single cardAt (roomOf s)) false) e in
-      let q = both (allFit (roomOf s)) (single cardAt (roomOf s)) (p .1) in
+      let p = both (eqb (length s) (width * places)) (cond (allFit (roomOf s)) (cardsOnce cardAt (roomOf s)) false) e in
+      let q = both (allFit (roomOf s)) (cardsOnce cardAt (roomOf s)) (p .1) in
       (eqb-true (length s) (width * places) (p .0), q .0, single-true cardAt [] (roomOf s) (q .1)),
   λ h. rw (eq-eqb (length s) (width * places) (h .0), h .1) (single-from cardAt [] (roomOf s) (h .2)),
 )

@@ -1,5 +1,5 @@
 -- The cache by computing: filed into an empty one, a tie, a stale place taken, and each answer and refusal.
--- shown; card, clock, good, empty, two, one, fill.
+-- cacheComputes; card, clock, good, empty, two, one, fill.
 -- Assumes nothing.
 use Prim.Native.Nat.{ℕ, zero, suc}
 use mathlib.Core.Path.{_≡_, refl}
@@ -14,17 +14,17 @@ use Rattle.slip.specs.Table.{sizeOf}
 use Rattle.slip.specs.Slip.{slipOf}
 use Rattle.slip.specs.Examples as slip
 use Rattle.cache_room.specs.Parts.{partsOf}
-use Rattle.cache_room.specs.Room.{firstAt, heldAt, single, count, freeAt, takenAt, keptIn, filedIn}
+use Rattle.cache_room.specs.Room.{firstAt, heldAt, cardsOnce, count, freeAt, takenAt, keptIn, filedIn}
 use Rattle.freshness.specs.declared.Clock.{Clock}
 use Rattle.cache_rules.specs.declared.Filed.the-variants.{Count, Refused}
 use Rattle.cache_rules.specs.Place.{slipIn, cardAt, saysAt, isSaid, placeOk, placeOf, staleAt, winsOf}
 use Rattle.freshness.specs.Clock.{clockOk}
 use Rattle.cache_rules.specs.Cache.{roomOf, allFit, isCache, takes, filingRefusal, roomAfter, filedOf, bufferOf, told, notHeld, missedAt, saidAt, askOf}
 
--- what a cache computes with: a proof that says `unfolding shown` opens it
-unfoldable pub shown : Unit {0}
-unfolding slip.shown sizeOf freshOf partsOf firstAt heldAt single count freeAt takenAt keptIn filedIn slipIn cardAt saysAt isSaid placeOk placeOf staleAt winsOf roomOf allFit isCache clockOk takes filingRefusal roomAfter filedOf bufferOf told notHeld missedAt saidAt askOf flatten
-shown = tt
+-- what a cache computes with: a proof that says `unfolding cacheComputes` opens it
+unfoldable pub cacheComputes : Unit {0}
+unfolding slip.slipComputes sizeOf freshOf partsOf firstAt heldAt cardsOnce count freeAt takenAt keptIn filedIn slipIn cardAt saysAt isSaid placeOk placeOf staleAt winsOf roomOf allFit isCache clockOk takes filingRefusal roomAfter filedOf bufferOf told notHeld missedAt saidAt askOf flatten
+cacheComputes = tt
 
 -- a card with hashes all of one octet and all 22, serial 05
 abbrev card : ℕ → Card
@@ -49,99 +49,99 @@ abbrev one : List ℕ
 one = two (good 0x11 100 200) (replicate 78 0)
 
 empty-fits : isCache empty ≡ true
-unfolding shown
+unfolding cacheComputes
 empty-fits = refl
 
 -- ---- filing
 
 -- into the empty cache: the first place, and one is then not empty
 filed-first : filedOf (clock 150 0) empty (good 0x11 100 200) ≡ Count 1
-unfolding shown
+unfolding cacheComputes
 filed-first = refl
 
 left-first : bufferOf (clock 150 0) empty (good 0x11 100 200) ≡ one
-unfolding shown
+unfolding cacheComputes
 left-first = refl
 
 -- a tie in thisUpdate puts the new slip; an earlier one leaves what is held
 tied : bufferOf (clock 150 0) one (good 0x11 100 300) ≡ two (good 0x11 100 300) (replicate 78 0)
-unfolding shown
+unfolding cacheComputes
 tied = refl
 
 earlier : bufferOf (clock 150 0) one (good 0x11 99 300) ≡ one
-unfolding shown
+unfolding cacheComputes
 earlier = refl
 
 earlier-counts : filedOf (clock 150 0) one (good 0x11 99 300) ≡ Count 1
-unfolding shown
+unfolding cacheComputes
 earlier-counts = refl
 
 -- another card: the next place at 200, and the stale one, before the empty ones, at 201; at 201 with tolerance 1 again
 -- the next
 beside : bufferOf (clock 200 0) one (good 0x33 100 300) ≡ two (good 0x11 100 200) (good 0x33 100 300)
-unfolding shown
+unfolding cacheComputes
 beside = refl
 
 stale-taken : bufferOf (clock 201 0) one (good 0x33 100 300) ≡ two (good 0x33 100 300) (replicate 78 0)
-unfolding shown
+unfolding cacheComputes
 stale-taken = refl
 
 tolerated : bufferOf (clock 201 1) one (good 0x33 100 300) ≡ two (good 0x11 100 200) (good 0x33 100 300)
-unfolding shown
+unfolding cacheComputes
 tolerated = refl
 
 -- the refusals in their order: a short buffer and a bad clock and slip; a bad clock and slip; a refusal's slip
 short : filedOf (clock 0 3601) (replicate 5567 0) [] ≡ Refused 19
-unfolding shown
+unfolding cacheComputes
 short = refl
 
 bad-clock : filedOf (clock 0 3601) empty [] ≡ Refused 1
-unfolding shown
+unfolding cacheComputes
 bad-clock = refl
 
 refusal : filedOf (clock 0 0) empty (4 ∷ 4 ∷ 6 ∷ []) ≡ Refused 17
-unfolding shown
+unfolding cacheComputes
 refusal = refl
 
 -- ---- no cache: a card twice, kind 04, an octet behind a slip
 
 card-twice : isCache (two (good 0x11 100 200) (good 0x11 101 200)) ≡ false
-unfolding shown
+unfolding cacheComputes
 card-twice = refl
 
 other-kind : isCache ((4 ∷ 4 ∷ 6 ∷ []) ++ replicate 5565 0) ≡ false
-unfolding shown
+unfolding cacheComputes
 other-kind = refl
 
 behind : isCache (good 0x11 100 200 ++ replicate 8 0 ++ (1 ∷ []) ++ replicate 5481 0) ≡ false
-unfolding shown
+unfolding cacheComputes
 behind = refl
 
 -- ---- asking
 
 told-good : askOf (clock 200 0) (card 0x11) one ≡ told (record { verdict = Good 100 200; card = card 0x11 })
-unfolding shown
+unfolding cacheComputes
 told-good = refl
 
 told-early : askOf (clock 99 3600) (card 0x11) one ≡ told (refused 15 0)
-unfolding shown
+unfolding cacheComputes
 told-early = refl
 
 told-late : askOf (clock 201 0) (card 0x11) one ≡ told (refused 16 0)
-unfolding shown
+unfolding cacheComputes
 told-late = refl
 
 -- the same serial and key hash under another Name
 told-none : askOf (clock 200 0) (card 0x33) one ≡ notHeld
-unfolding shown
+unfolding cacheComputes
 told-none = refl
 
 told-twice : askOf (clock 200 3601) (card 0x11) (two (good 0x11 100 200) (good 0x11 101 200)) ≡ told (refused 19 0)
-unfolding shown
+unfolding cacheComputes
 told-twice = refl
 
 told-range : askOf (clock 200 3601) (card 0x11) one ≡ told (refused 1 0)
-unfolding shown
+unfolding cacheComputes
 told-range = refl
 
 -- ---- a full cache
@@ -152,14 +152,14 @@ fill zero = []
 fill (suc n) = good (suc n) 100 200 ++ replicate 9 0 ++ fill n
 
 no-place : filedOf (clock 200 0) (fill 64) (good 0x77 100 300) ≡ Refused 20
-unfolding shown fill
+unfolding cacheComputes fill
 no-place = refl
 
 -- a card that is held has its place, and one second later any card has
 own-place : filedOf (clock 200 0) (fill 64) (good 7 100 300) ≡ Count 64
-unfolding shown fill
+unfolding cacheComputes fill
 own-place = refl
 
 a-second-later : filedOf (clock 201 0) (fill 64) (good 0x77 100 300) ≡ Count 64
-unfolding shown fill
+unfolding cacheComputes fill
 a-second-later = refl

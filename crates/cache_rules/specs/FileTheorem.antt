@@ -20,7 +20,7 @@ use Rattle.cache_room.specs.FirstLaws.{held-none}
 use Rattle.cache_room.specs.TakenLaws.{taken-first}
 use Rattle.freshness.specs.declared.Clock.{Clock}
 use Rattle.cache_rules.specs.declared.Filed.the-variants.{Count}
-use Rattle.cache_rules.specs.Place.{width, places, cardAt, saysAt, placeOf, thisOf, isStale, winsOf, saysOf, Whole}
+use Rattle.cache_rules.specs.Place.{width, places, cardAt, saysAt, placeOf, thisOf, isStale, winsOf, saysOf, WholeCard}
 use Rattle.cache_rules.specs.PlaceLaws.{place-says, place-card}
 use Rattle.cache_rules.specs.Cache.{roomOf, placeIn, isCache, takes, filingRefusal, filedOf, bufferOf, askOf}
 use Rattle.cache_rules.specs.CacheLaws.{room-length}
@@ -110,6 +110,6 @@ module _ (clock : Clock) (s t : List ℕ) (o : Octets t) where
 
   -- asking for another card gives at any time and with any tolerance what it gave before; or its place was stale at the
   -- filing's time and is the one taken, and no place has it then. A refused filing changes nothing
-  pub others : (card : Card) → Whole card → (card ≡ saysOf t .card → ⊥)
+  pub others : (card : Card) → WholeCard card → (card ≡ saysOf t .card → ⊥)
       → ((later : Clock) → askOf later card (bufferOf clock s t) ≡ askOf later card s) ⊎ PlaceTaken clock s t card
   others = others-either clock s t o

@@ -19,7 +19,7 @@ use Rattle.slip.specs.RulesLaws.{both}
 use Rattle.slip.specs.Table.{rowIn, rowOf}
 use Rattle.slip.specs.Slip.{cardOctets, slipOf, slipOk}
 use Rattle.slip.specs.SlipLaws.{read-written}
-use Rattle.cache_rules.specs.Place.{width, kindAt, slipIn, cardAt, saysAt, isSaid, placeOk, placeOf, thisOf, nextOf, saysOf, slipSize, Whole}
+use Rattle.cache_rules.specs.Place.{width, kindAt, slipIn, cardAt, saysAt, isSaid, placeOk, placeOf, thisOf, nextOf, saysOf, slipSize, WholeCard}
 use Rattle.cache_rules.specs.PlaceLaws.{read-sized, said-kind, slip-back, slip-size, slip-most, kind-there, card-there, said-times, place-fits, card-some}
 
 -- zeros have no card
@@ -76,7 +76,7 @@ module _ (p : List ℕ) (o : Octets p) where
 -- octets are a slip of kind 01 to 03 exactly if they are that of a good, revoked or unknown answer that keeps the slip
 -- rules
 pub slip-exactly : (t : List ℕ) → Octets t
-    → isSaid (saysOf t) ≡ true ↔ (a : Answer) × (kindOf (a .verdict) < 4) × (slipOk a ≡ true) × Whole (a .card) × (slipOf a ≡ t)
+    → isSaid (saysOf t) ≡ true ↔ (a : Answer) × (kindOf (a .verdict) < 4) × (slipOk a ≡ true) × WholeCard (a .card) × (slipOf a ≡ t)
 unfolding isSaid
 slip-exactly t o = (
   λ h. (saysOf t, said-kind (saysOf t) h, slip-back t o h .0, read-sized t, slip-back t o h .1),

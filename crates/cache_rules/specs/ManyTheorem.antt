@@ -14,7 +14,7 @@ use Rattle.answer.specs.declared.Card.{Card}
 use Rattle.answer.specs.Card.{cardOk}
 use Rattle.answer.specs.Verdict.{refused}
 use Rattle.freshness.specs.declared.Clock.{Clock}
-use Rattle.cache_rules.specs.Place.{cardAt, saysOf, Whole}
+use Rattle.cache_rules.specs.Place.{cardAt, saysOf, WholeCard}
 use Rattle.cache_rules.specs.PlaceLaws.{read-sized, place-card}
 use Rattle.cache_rules.specs.Cache.{placeIn, isCache, takes, filingRefusal, bufferOf, told, askOf}
 use Rattle.cache_rules.specs.RefusalLaws.{filed-refused}
@@ -52,7 +52,7 @@ all-kept s (f ∷ l) h c = all-kept (bufferOf (f .0) s (f .1)) l (h .1) (one-kep
 
 -- ── another card ──
 
-module _ (card : Card) (z : Whole card) (f : cardOk card ≡ true) where
+module _ (card : Card) (z : WholeCard card) (f : cardOk card ≡ true) where
   -- a card whose place is taken was stale: asking for it then gives 16
   pub taken-late : (clock : Clock) (s t : List ℕ) → Octets s → PlaceTaken clock s t card → askOf clock card s ≡ told (refused 16 0)
   taken-late clock s t o h =

@@ -21,7 +21,7 @@ use Rattle.cache_room.specs.FirstLaws.{held-there}
 use Rattle.cache_room.specs.FirstLaws as first
 use Rattle.cache_room.specs.OtherLaws.{Kept, Taken, other-either}
 use Rattle.freshness.specs.declared.Clock.{Clock}
-use Rattle.cache_rules.specs.Place.{places, kindAt, slipIn, cardAt, saysAt, isSaid, placeOf, isStale, winsOf, saysOf, slipSize, Whole}
+use Rattle.cache_rules.specs.Place.{places, kindAt, slipIn, cardAt, saysAt, isSaid, placeOf, isStale, winsOf, saysOf, slipSize, WholeCard}
 use Rattle.cache_rules.specs.PlaceLaws.{read-sized, slip-back, slip-carded, place-card}
 use Rattle.cache_rules.specs.FitLaws.{held-card}
 use Rattle.cache_rules.specs.Cache.{roomOf, placeIn, isCache, takes, filingRefusal, roomAfter, bufferOf, askOf}
@@ -37,7 +37,7 @@ pub slip-card-ok : (t : List ℕ) → Octets t → isSaid (saysOf t) ≡ true �
 slip-card-ok t o h = slip-parts (saysOf t) (slip-back t o h .0) .1 (slip-carded t o h)
 
 -- the card of what a place says is the one that the place has
-pub place-own : (p : List ℕ) → Octets p → isSaid (saysAt p) ≡ true → (card : Card) → Whole card → cardOk card ≡ true
+pub place-own : (p : List ℕ) → Octets p → isSaid (saysAt p) ≡ true → (card : Card) → WholeCard card → cardOk card ≡ true
     → cardAt p ≡ cardOctets card → saysAt p .card ≡ card
 unfolding saysAt slipIn
 place-own p o h card z f e =
@@ -57,7 +57,7 @@ ask-broken : (clock : Clock) (card : Card) (s u : List ℕ) → isCache s ≡ tr
 unfolding askOf
 ask-broken clock card s u c d f = rw (c, d, f)
 
-module _ (clock : Clock) (s t : List ℕ) (o : Octets t) (card : Card) (z : Whole card) (other : card ≡ saysOf t .card → ⊥) where
+module _ (clock : Clock) (s t : List ℕ) (o : Octets t) (card : Card) (z : WholeCard card) (other : card ≡ saysOf t .card → ⊥) where
   abbrev after : List ℕ
   after = bufferOf clock s t
 

@@ -1,5 +1,5 @@
 -- A place of the cache (document 02, C-11): its octets, the slip in it, and what the rest of the cache sees of it.
--- width, places; slipSize, cardWidth, Whole, saysOf, isSaid; kindAt, slipIn, cardAt, saysAt, placeOk, placeOf;
+-- width, places; slipSize, cardWidth, WholeCard, saysOf, isSaid; kindAt, slipIn, cardAt, saysAt, placeOk, placeOf;
 -- thisOf, nextOf, staleAt, isStale, winsOf. Laws are in PlaceLaws and FitLaws.
 -- The rest of the cache sees nothing else of a place: its width, a kind's sizes and what its slip says, when a slip is
 -- stale, and which of two slips wins. Assumes nothing.
@@ -35,8 +35,8 @@ abbrev pub cardWidth : ℕ → ℕ
 cardWidth kind = cardSize 20 (rowOf kind)
 
 -- a card as a slip can have it
-abbrev pub Whole : Card → Type 0
-Whole card = Sized 20 card
+abbrev pub WholeCard : Card → Type 0
+WholeCard card = Sized 20 card
 
 -- what a slip says; a broken one is read as a refusal
 abbrev pub saysOf : List ℕ → Answer

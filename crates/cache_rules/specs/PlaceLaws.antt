@@ -11,6 +11,7 @@ use lib.Dec.{eqb, leb}
 use lib.ListN.{length, take, drop, replicate, length-append, length-replicate}
 use lib.Seq.{take-at, drop-at}
 use borrow.Author.Tests.{ltb-true, leb-true}
+use Rattle.calendar.specs.Time.{lastSecond}
 use Rattle.octets.specs.Octets.{Octets}
 use Rattle.answer.specs.declared.Answer.{Answer}
 use Rattle.answer.specs.declared.Verdict.{Verdict}
@@ -22,7 +23,7 @@ use Rattle.answer.specs.VerdictLaws.{refused-kind}
 use Rattle.fields.specs.Field.{cardIn}
 use Rattle.fields.specs.FieldLaws.{field-length}
 use Rattle.slip.specs.Numbers.{total, numbersForm}
-use Rattle.slip.specs.Rules.{lastTime, timesOk, verdictOk, reasonOk}
+use Rattle.slip.specs.Rules.{timesOk, verdictOk, reasonFits}
 use Rattle.slip.specs.RulesLaws.{both}
 use Rattle.slip.specs.Table.{Row, rowIn, rowOf, cardSize, bodySize, sizeOf}
 use Rattle.slip.specs.Slip.{cardOctets, bodyOf, slipOf, slipOk, verdictIn, cardUnder, parsedAs, parsed, readOf, Sized}
@@ -81,10 +82,10 @@ most (Refused number status) h = absurd (omega arith)
 -- its thisUpdate is not after its nextUpdate
 ordered : (v : Verdict) → verdictOk v ≡ true → thisOf v ≤ nextOf v
 unfolding verdictOk timesOk
-ordered (Good this next) e = leb-true this next (both (leb this next) (leb next lastTime) e .0)
+ordered (Good this next) e = leb-true this next (both (leb this next) (leb next lastSecond) e .0)
 ordered (Revoked this next at reason) e =
-    leb-true this next (both (leb this next) (leb next lastTime) (both (timesOk this next) (cond (leb at lastTime) (reasonOk reason) false) e .0) .0)
-ordered (Unknown this next) e = leb-true this next (both (leb this next) (leb next lastTime) e .0)
+    leb-true this next (both (leb this next) (leb next lastSecond) (both (timesOk this next) (cond (leb at lastSecond) (reasonFits reason) false) e .0) .0)
+ordered (Unknown this next) e = leb-true this next (both (leb this next) (leb next lastSecond) e .0)
 ordered (Refused number status) e = omega arith
 
 -- ---- a slip of kind 01 to 03

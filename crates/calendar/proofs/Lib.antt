@@ -1,5 +1,4 @@
 pub mod YearLaws
 pub mod MonthLaws
-pub mod ClockLaws
 pub mod FitLaws
 pub mod PlainCases

@@ -1,11 +1,11 @@
 -- The code's two tables are the month lengths and their sums.
 -- month-leap, month-common, month-other: the days of a month, as the code's tests leave them;
--- day-early, day-late: whether a month has a day;
+-- day-early: every month has 28 days;
 -- sums, sum-short, months-first, months-leap, months-common: the days before a month.
 -- Assumes nothing.
 use Prim.Native.Nat.{ℕ, zero, suc, _+_, _-_, _≤_, _<_}
 use native.Mathlib.Omega.{arith}
-use mathlib.Core.Path.{_≡_, refl, sym, ap, _∙_}
+use mathlib.Core.Path.{_≡_, refl, sym, _∙_}
 use mathlib.Core.List.{List, [], _∷_}
 use mathlib.Core.Bool.{Bool, true, false, cond, _&&_, and-false}
 use lib.Dec.{leb, eqb}
@@ -13,7 +13,7 @@ use lib.ListN.{getD}
 use borrow.Author.Tests.{leb-true, eqb-true, le-leb, lt-leb}
 use Rattle.calendar.specs.Split.{before}
 use Rattle.calendar.specs.Date.{leapOf, lengths, monthLen}
-use Rattle.calendar.specs.DateLaws.{each, each-at, lengths-short}
+use Rattle.calendar.specs.DateLaws.{holdsBelow, each-at, month-within}
 
 -- a leap year changes no month but February
 lengths-other : (leap : Bool) (k : ℕ) → (k ≡ 1 → ⊥) → getD (lengths false) k 0 ≡ getD (lengths leap) k 0
@@ -21,11 +21,6 @@ lengths-other false k h = refl
 lengths-other true zero h = refl
 lengths-other true (suc zero) h = absurd (h refl)
 lengths-other true (suc (suc k)) h = refl
-
--- no month has fewer than 28 days
-lengths-long : (leap : Bool) (k : ℕ) → k < 12 → 28 ≤ getD (lengths leap) k 0
-lengths-long true k h = leb-true _ _ (each-at (λ (i : ℕ). leb 28 (getD (lengths true) i 0)) 12 refl k h)
-lengths-long false k h = leb-true _ _ (each-at (λ (i : ℕ). leb 28 (getD (lengths false) i 0)) 12 refl k h)
 
 -- the days before each month, in a common year
 abbrev sums : List ℕ
@@ -35,7 +30,7 @@ sums = 0 ∷ 31 ∷ 59 ∷ 90 ∷ 120 ∷ 151 ∷ 181 ∷ 212 ∷ 243 ∷ 273 �
 isSum : Bool → ℕ → Bool
 isSum leap k = eqb (getD sums k 0 + cond (leap && leb 2 k) 1 0) (before (λ (i : ℕ). getD (lengths leap) i 0) k)
 
-sums-right : (leap : Bool) → each (isSum leap) 12 ≡ true
+sums-right : (leap : Bool) → holdsBelow (isSum leap) 12 ≡ true
 unfolding isSum before
 sums-right true = refl
 sums-right false = refl
@@ -44,27 +39,21 @@ pub sum-short : (m : ℕ) → (1 ≤ m) × (m ≤ 12) → getD sums (m - 1) 0 �
 sum-short m pre = leb-true _ _ (each-at (λ (i : ℕ). leb (getD sums i 0) 334) 12 refl (m - 1) (omega arith))
 
 module _ (y m : ℕ) where
-  pub month-leap : (t : Bool) → t ≡ leapOf y → t ≡ true → m ≡ 2 → (29 ≡ monthLen y (m - 1)) × (29 ≤ 31)
+  pub month-leap : (t : Bool) → t ≡ leapOf y → t ≡ true → m ≡ 2 → 29 ≡ monthLen y (m - 1)
   unfolding monthLen
-  month-leap t e f h = (rw (h, sym e ∙ f), omega arith)
+  month-leap t e f h = rw (h, sym e ∙ f)
 
-  pub month-common : (t : Bool) → t ≡ leapOf y → t ≡ false → m ≡ 2 → (28 ≡ monthLen y (m - 1)) × (28 ≤ 31)
+  pub month-common : (t : Bool) → t ≡ leapOf y → t ≡ false → m ≡ 2 → 28 ≡ monthLen y (m - 1)
   unfolding monthLen
-  month-common t e f h = (rw (h, sym e ∙ f), omega arith)
-
-  pub day-late : (d l : ℕ) → (l ≡ monthLen y (m - 1)) × (l ≤ 31) → leb d l ≡ leb d (monthLen y (m - 1))
-  day-late d l e = ap (leb d) (e .0)
+  month-common t e f h = rw (h, sym e ∙ f)
 
   module _ (pre : (1 ≤ m) × (m ≤ 12)) (d : ℕ) where
-    pub day-early : d ≤ 28 → true ≡ leb d (monthLen y (m - 1))
+    pub month-other : d ≡ getD (lengths false) (m - 1) 0 → (m ≡ 2 → ⊥) → d ≡ monthLen y (m - 1)
     unfolding monthLen
-    day-early h =
-        sym (le-leb d (getD (lengths (leapOf y)) (m - 1) 0) (omega (arith, lengths-long (leapOf y) (m - 1) (omega arith))))
+    month-other s h = s ∙ lengths-other (leapOf y) (m - 1) (λ q. h (omega arith))
 
-    pub month-other : d ≡ getD (lengths false) (m - 1) 0 → (m ≡ 2 → ⊥) → (d ≡ monthLen y (m - 1)) × (d ≤ 31)
-    unfolding monthLen
-    month-other s h =
-        (s ∙ lengths-other (leapOf y) (m - 1) (λ q. h (omega arith)), omega (arith, lengths-short false (m - 1) (omega arith)))
+    pub day-early : d ≤ 28 → true ≡ leb d (monthLen y (m - 1))
+    day-early h = sym (le-leb d (monthLen y (m - 1)) (omega (arith, month-within y (m - 1) (omega arith))))
 
     right : getD sums (m - 1) 0 + cond (leapOf y && leb 2 (m - 1)) 1 0 ≡ before (monthLen y) (m - 1)
     unfolding isSum monthLen

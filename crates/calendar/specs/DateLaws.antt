@@ -1,5 +1,5 @@
 -- The lengths of months and years.
--- and-l, and-r; each, each-at: a test computed over a table; lengths-short, month-short, year-whole, days-whole.
+-- and-l, and-r, and-both; holdsBelow, each-at: a test computed over a table; month-within, year-whole, days-whole.
 -- Other crates need only TimeLaws.
 -- Assumes nothing.
 use Prim.Native.Nat.{ℕ, zero, suc, _+_, _≤_, _<_}
@@ -22,28 +22,37 @@ pub and-r : (a b : Bool) → a && b ≡ true → b ≡ true
 and-r true b e = e
 and-r false b e = cc
 
+pub and-both : (a b : Bool) → a ≡ true → b ≡ true → a && b ≡ true
+and-both a b p q = rw (p, q)
+
 -- a test holds of each number below n
-abbrev pub each : (ℕ → Bool) → ℕ → Bool
-each p zero = true
-each p (suc n) = p n && each p n
+abbrev pub holdsBelow : (ℕ → Bool) → ℕ → Bool
+holdsBelow p zero = true
+holdsBelow p (suc n) = p n && holdsBelow p n
 
 -- and so of any one of them
-pub each-at : (p : ℕ → Bool) (n : ℕ) → each p n ≡ true → (k : ℕ) → k < n → p k ≡ true
+pub each-at : (p : ℕ → Bool) (n : ℕ) → holdsBelow p n ≡ true → (k : ℕ) → k < n → p k ≡ true
 each-at p zero t k h = absurd (not-suc-le-zero h)
 each-at p (suc n) t k h =
     ⊎-elim
-    (λ (e : k ≡ n). rw e (and-l (p n) (each p n) t))
-    (λ (l : k < n). each-at p n (and-r (p n) (each p n) t) k l)
+    (λ (e : k ≡ n). rw e (and-l (p n) (holdsBelow p n) t))
+    (λ (l : k < n). each-at p n (and-r (p n) (holdsBelow p n) t) k l)
     (eq-or-lt-of-le (le-of-suc-le-suc h))
 
--- no month has more than 31 days
-pub lengths-short : (leap : Bool) (k : ℕ) → k < 12 → getD (lengths leap) k 0 ≤ 31
-lengths-short true k h = leb-true _ _ (each-at (λ (i : ℕ). leb (getD (lengths true) i 0) 31) 12 refl k h)
-lengths-short false k h = leb-true _ _ (each-at (λ (i : ℕ). leb (getD (lengths false) i 0) 31) 12 refl k h)
+-- every month has 28 to 31 days
+isMonth : Bool → ℕ → Bool
+isMonth leap k = leb 28 (getD (lengths leap) k 0) && leb (getD (lengths leap) k 0) 31
 
-pub month-short : (y k : ℕ) → k < 12 → monthLen y k ≤ 31
-unfolding monthLen
-month-short y k h = lengths-short (leapOf y) k h
+all-months : (leap : Bool) → holdsBelow (isMonth leap) 12 ≡ true
+unfolding isMonth
+all-months true = refl
+all-months false = refl
+
+pub month-within : (y k : ℕ) → k < 12 → (28 ≤ monthLen y k) × (monthLen y k ≤ 31)
+unfolding isMonth monthLen
+month-within y k h =
+    let t = each-at (isMonth (leapOf y)) 12 (all-months (leapOf y)) k h in
+    (leb-true _ _ (search and-l), leb-true _ _ (search and-r))
 
 -- the twelve months fill the year
 months-whole : (leap : Bool) → before (λ (k : ℕ). getD (lengths leap) k 0) 12 ≡ cond leap 366 365

@@ -6,7 +6,7 @@ use mathlib.Core.Path.{_≡_, refl}
 use mathlib.Core.List.{List, [], _∷_, _++_}
 use Rattle.calendar.specs.Split.{before, find}
 use Rattle.calendar.specs.Date.{leapOf, yearLen, monthLen}
-use Rattle.calendar.specs.Time.{isReal, secondsOf, pairOf, clockOf, timeOf, formOf, momentOf, timeForm}
+use Rattle.calendar.specs.Time.{isReal, secondsOf, pairOf, clockOf, timeOf, momentForm, momentOf, timeForm}
 use Rattle.calendar.specs.declared.Time.the-variants.{At, No}
 
 -- the octets of the last w decimal digits of a number
@@ -43,17 +43,17 @@ unfolding timeOf clockOf pairOf isReal secondsOf monthLen yearLen leapOf before
 m6 = refl
 
 pub form1 : timeForm 1114909200 ≡ text 20050501010000
-unfolding timeForm momentOf formOf find monthLen yearLen leapOf
+unfolding timeForm momentOf momentForm find monthLen yearLen leapOf
 form1 = refl
 
 pub form2 : timeForm 1131407564 ≡ text 20051107235244
-unfolding timeForm momentOf formOf find monthLen yearLen leapOf
+unfolding timeForm momentOf momentForm find monthLen yearLen leapOf
 form2 = refl
 
 pub form3 : timeForm 951782400 ≡ text 20000229000000
-unfolding timeForm momentOf formOf find monthLen yearLen leapOf
+unfolding timeForm momentOf momentForm find monthLen yearLen leapOf
 form3 = refl
 
 pub form5 : timeForm 253402300799 ≡ text 99991231235959
-unfolding timeForm momentOf formOf find monthLen yearLen leapOf
+unfolding timeForm momentOf momentForm find monthLen yearLen leapOf
 form5 = refl

@@ -5,12 +5,12 @@ use Prim.Native.Nat.{ℕ, _+_, _-_, _*_, _/_, _%_, _≤_, _<_}
 use native.Mathlib.Omega.{arith}
 use mathlib.Core.Path.{_≡_, refl, ap, _∙_}
 use mathlib.Core.Bool.{true}
-use borrow.Author.Tests.{leb-true, le-leb, lt-ltb}
+use borrow.Author.Tests.{leb-true, le-leb}
 use Rattle.calendar.specs.Split.{before, find}
 use Rattle.calendar.specs.SplitLaws.{find-sound, find-only, before-less}
-use Rattle.calendar.specs.Date.{yearLen, monthLen, daysOf}
-use Rattle.calendar.specs.DateLaws.{and-l, and-r, year-whole, days-whole}
-use Rattle.calendar.specs.Time.{Moment, isReal, secondsOf, momentOf}
+use Rattle.calendar.specs.Date.{yearLen, monthLen}
+use Rattle.calendar.specs.DateLaws.{and-l, and-r, and-both, year-whole, days-whole}
+use Rattle.calendar.specs.Time.{lastSecond, Moment, isReal, secondsOf, momentOf}
 
 -- what `isReal` tests, as facts
 pub record Real (m : Moment) : Type 0 where
@@ -30,18 +30,7 @@ real-facts m e = search (and-l, and-r, leb-true) depth 12
 
 pub real-is : (m : Moment) → Real m → isReal m ≡ true
 unfolding isReal
-real-is m r =
-    simp (
-      le-leb _ _ (r .from),
-      le-leb _ _ (r .to),
-      le-leb _ _ (r .first),
-      le-leb _ _ (r .last),
-      le-leb _ _ (r .begun),
-      le-leb _ _ (r .within),
-      lt-ltb _ _ (r .hours),
-      lt-ltb _ _ (r .minutes),
-      lt-ltb _ _ (r .seconds),
-    )
+real-is m r = search (and-both, le-leb) depth 12
 
 -- k whole years, j whole months and r whole days passed, and the time of day of n
 abbrev fallen : ℕ → ℕ → ℕ → ℕ → Moment
@@ -73,7 +62,7 @@ module _ (n k j r : ℕ) (y : k < 8030) (m : j < 12) (d : r < monthLen (1970 + k
       rw (a, b, c, t) (omega arith)
 
 -- a number of seconds has a real moment, whose seconds it is
-pub moment-sound : (n : ℕ) → n ≤ 253402300799 → Real (momentOf n) × (secondsOf (momentOf n) ≡ n)
+pub moment-sound : (n : ℕ) → n ≤ lastSecond → Real (momentOf n) × (secondsOf (momentOf n) ≡ n)
 unfolding momentOf
 moment-sound n h =
     let y = find yearLen 8030 0 (n / 86400) in
@@ -85,21 +74,6 @@ moment-sound n h =
     (fallen-real n (y .0) (m .0) (m .1) (p .0) (q .0) (q .1) e, fallen-seconds n (y .0) (m .0) (m .1) (p .0) (q .0) (q .1) e)
 
 module _ (m : Moment) (r : Real m) where
-  day-part : (d : ℕ) → (d * 86400 + (m .hour * 3600 + m .minute * 60 + m .second)) / 86400 ≡ d
-  day-part d = omega arith
-
-  time-part : (d : ℕ) → (d * 86400 + (m .hour * 3600 + m .minute * 60 + m .second)) % 86400 ≡ m .hour * 3600 + m .minute * 60 + m .second
-  time-part d = omega arith
-
-  hour-part : (m .hour * 3600 + m .minute * 60 + m .second) / 3600 ≡ m .hour
-  hour-part = omega arith
-
-  minute-part : (m .hour * 3600 + m .minute * 60 + m .second) % 3600 / 60 ≡ m .minute
-  minute-part = omega arith
-
-  second-part : (m .hour * 3600 + m .minute * 60 + m .second) % 60 ≡ m .second
-  second-part = omega arith
-
   year-part : 1970 + (m .year - 1970) ≡ m .year
   year-part = omega arith
 
@@ -110,16 +84,20 @@ module _ (m : Moment) (r : Real m) where
       let k = m .year - 1970 in
       let j = m .month - 1 in
       let f = m .day - 1 in
-      let d = daysOf (m .year) (m .month) (m .day) in
+      let t = m .hour * 3600 + m .minute * 60 + m .second in
       let w : f < monthLen (m .year) j = omega arith in
-      let e : before yearLen k + (before (monthLen (m .year)) j + f) ≡ secondsOf m / 86400 = omega (arith, day-part d) in
+      let e : before yearLen k + (before (monthLen (m .year)) j + f) ≡ secondsOf m / 86400 = omega arith in
       let mo : 1 + j ≡ m .month = omega arith in
       let da : 1 + f ≡ m .day = omega arith in
+      let time : secondsOf m % 86400 ≡ t = omega arith in
+      let ho : t / 3600 ≡ m .hour = omega arith in
+      let mi : t % 3600 / 60 ≡ m .minute = omega arith in
+      let se : t % 60 ≡ m .second = omega arith in
       fallen-only (secondsOf m) k j f (omega arith) (omega arith) (rw year-part w) (rw year-part e)
-      ∙ rw (year-part, mo, da, time-part d, hour-part, minute-part, second-part)
+      ∙ rw (year-part, mo, da, time, ho, mi, se)
 
   -- and lies before the year 10000
-  pub seconds-limit : secondsOf m ≤ 253402300799
+  pub seconds-limit : secondsOf m ≤ lastSecond
   unfolding secondsOf
   seconds-limit =
       let k = m .year - 1970 in

@@ -1,5 +1,5 @@
 -- Cumulative lengths split a number in exactly one way, over any row of lengths.
--- before-mono, before-less; Parts; find-sound: what is found are its parts; find-only: it has no others.
+-- before-mono, before-less; Parts; find-only: a number's parts are what is found; find-sound: what is found are its parts.
 -- Other crates need only TimeLaws.
 -- Assumes nothing.
 use Prim.Native.Nat.{ℕ, zero, suc, _+_, _-_, _≤_, _<_}
@@ -7,7 +7,7 @@ use native.Mathlib.Nat.{le-suc-iff, eq-or-lt-of-le}
 use native.Mathlib.Omega.{arith}
 use mathlib.Core.Path.{_≡_, refl, ap}
 use mathlib.Core.Logic.{⊎-elim}
-use mathlib.Core.Bool.{Bool, true, false, cond}
+use mathlib.Core.Bool.{Bool, true, false}
 use lib.Dec.{ltb}
 use borrow.Author.Tests.{ltb-true, ltb-false, lt-ltb, le-ltb}
 use Rattle.calendar.specs.Split.{before, find}
@@ -32,32 +32,6 @@ module _ (len : ℕ → ℕ) where
   abbrev pub Parts : ℕ → ℕ → ℕ × ℕ → Type 0
   Parts size n p = (p .0 < size) × (p .1 < len (p .0)) × (before len (p .0) + p .1 ≡ n)
 
-  find-from : (f k n : ℕ) → before len k + n < before len (k + f) → Parts (k + f) (before len k + n) (find len f k n)
-  unfolding find
-  find-from zero k n h =
-      let e : k + 0 ≡ k = omega arith in
-      absurd (omega (arith, rw e at h))
-  find-from (suc f) k n h = go (find-from f (suc k) (n - len k)) (ltb n (len k)) refl
-    where
-      go : (before len (suc k) + (n - len k) < before len (suc k + f)
-          → Parts (suc k + f) (before len (suc k) + (n - len k)) (find len f (suc k) (n - len k)))
-          → (b : Bool) → ltb n (len k) ≡ b
-          → Parts (k + suc f) (before len k + n) (cond b (k, n) (find len f (suc k) (n - len k)))
-      go next true e = (omega arith, ltb-true _ _ e, refl)
-      go next false e =
-          let l : len k ≤ n = ltb-false _ _ e in
-          let s : k + suc f ≡ suc k + f = omega arith in
-          let a : before len (suc k) + (n - len k) ≡ before len k + n = omega (arith, before-suc k) in
-          rw (s, ← a) (next (rw (a, ← s) h))
-
-  -- the parts that are found are parts of the number
-  pub find-sound : (size n : ℕ) → n < before len size → Parts size n (find len size 0 n)
-  unfolding before
-  find-sound size n h =
-      let e : 0 + size ≡ size = omega arith in
-      let a : 0 + n ≡ n = omega arith in
-      rw (e, a) at (find-from size 0 n (rw (e, a) h))
-
   only-from : (f k j n r : ℕ) → k ≤ j → j < k + f → r < len j → before len k + n ≡ before len j + r → find len f k n ≡ (j, r)
   unfolding find
   only-from zero k j n r a b i e = absurd (omega arith)
@@ -71,7 +45,21 @@ module _ (len : ℕ → ℕ) where
       rw (le-ltb n (len k) l) (only-from f (suc k) j (n - len k) r q (omega arith) i (omega (arith, before-suc k))))
       (eq-or-lt-of-le a)
 
-  -- and no others are
+  -- the parts of a number are the ones that are found
   pub find-only : (size n : ℕ) (p : ℕ × ℕ) → Parts size n p → find len size 0 n ≡ p
   unfolding before
   find-only size n p h = only-from size 0 (p .0) n (p .1) (omega arith) (omega arith) (h .1) (omega arith)
+
+  -- a number below the sum has parts
+  some-parts : (size n : ℕ) → n < before len size → (p : ℕ × ℕ) × Parts size n p
+  unfolding before
+  some-parts zero n h = absurd (omega arith)
+  some-parts (suc k) n h = go (some-parts k n) (ltb n (before len k)) refl
+    where
+      go : (n < before len k → (p : ℕ × ℕ) × Parts k n p) → (b : Bool) → ltb n (before len k) ≡ b → (p : ℕ × ℕ) × Parts (suc k) n p
+      go below true e = let (p, q) = below (ltb-true _ _ e) in (p, omega arith)
+      go below false e = let l = ltb-false n (before len k) e in ((k, n - before len k), omega arith)
+
+  -- so those are found
+  pub find-sound : (size n : ℕ) → n < before len size → Parts size n (find len size 0 n)
+  find-sound size n h = let (p, q) = some-parts size n h in rw (find-only size n p q) q

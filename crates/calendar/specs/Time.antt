@@ -1,5 +1,5 @@
 -- GeneralizedTime of 15 octets, YYYYMMDDHHMMSSZ, and the seconds since 1970 (document 01, "Times").
--- Moment, isReal, secondsOf; reading: isDigit, pairOf, written, clockOf, pairAt, timeOf, isTime; writing: two, formOf, momentOf, timeForm.
+-- lastSecond; Moment, isReal, secondsOf; reading: isDigit, pairOf, written, clockOf, pairAt, timeOf, isTime; writing: twoDigits, momentForm, momentOf, timeForm.
 -- That reading and writing undo each other is in TimeLaws.
 -- Assumes nothing.
 use Prim.Native.Nat.{ℕ, _+_, _-_, _*_, _/_, _%_}
@@ -11,6 +11,10 @@ use Rattle.calendar.specs.Split.{find}
 use Rattle.calendar.specs.Date.{yearLen, monthLen, daysOf}
 use Rattle.calendar.specs.declared.Time.{Time}
 use Rattle.calendar.specs.declared.Time.the-variants.{At, No}
+
+-- the last second of year 9999
+abbrev pub lastSecond : ℕ
+lastSecond = 253402300799
 
 -- a date and a time of day
 pub record Moment : Type 0 where
@@ -68,12 +72,12 @@ isTime (At n) = true
 isTime No = false
 
 -- two decimal digits
-abbrev pub two : ℕ → List ℕ
-two n = (48 + n / 10 % 10) ∷ (48 + n % 10) ∷ []
+abbrev pub twoDigits : ℕ → List ℕ
+twoDigits n = (48 + n / 10 % 10) ∷ (48 + n % 10) ∷ []
 
 -- the 15 octets of a date and a time of day
-unfoldable pub formOf : Moment → List ℕ
-formOf m = two (m .year / 100) ++ two (m .year % 100) ++ two (m .month) ++ two (m .day) ++ two (m .hour) ++ two (m .minute) ++ two (m .second) ++ (90 ∷ [])
+unfoldable pub momentForm : Moment → List ℕ
+momentForm m = twoDigits (m .year / 100) ++ twoDigits (m .year % 100) ++ twoDigits (m .month) ++ twoDigits (m .day) ++ twoDigits (m .hour) ++ twoDigits (m .minute) ++ twoDigits (m .second) ++ (90 ∷ [])
 
 -- the date and the time of day of a number of seconds: whole years passed over, of the 8,030 from 1970 to 9999, then whole months
 unfoldable pub momentOf : ℕ → Moment
@@ -85,4 +89,4 @@ momentOf n =
 
 -- the 15 octets of a number of seconds
 unfoldable pub timeForm : ℕ → List ℕ
-timeForm n = formOf (momentOf n)
+timeForm n = momentForm (momentOf n)

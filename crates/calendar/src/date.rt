@@ -32,9 +32,9 @@ fn is_leap(y: u64) -> bool
 }
 
 // The days of month m, from 1 on, of year y.
-pub(crate) fn month_len(y: u64, m: u64) -> u64
+fn month_len(y: u64, m: u64) -> u64
     requires { ⌜ (1 ≤ m) × (m ≤ 12) ⌝ }
-    ensures { λ r. ⌜ (r ≡ monthLen y (m - 1)) × (r ≤ 31) ⌝ }
+    ensures { λ r. ⌜ r ≡ monthLen y (m - 1) ⌝ }
 {
     if m == 2 {
         if is_leap(y) {

@@ -12,6 +12,9 @@ pub use fitting::time_fits;
 pub use plain::seconds_of;
 pub use reading::read_time;
 
+// The last second of year 9999.
+pub const LAST_SECOND: u64 = 253402300799;
+
 // The seconds since 1970-01-01 00:00:00, or that the octets are no time.
 pub enum Time {
     At(u64),

@@ -4,14 +4,22 @@
 // number of two digits. The 528 of each pair are taken off where a number is used.
 use crate::date;
 ghost use mathlib.Core.Path.{_≡_};
-ghost use Prim.Native.Nat.{_≤_};
-ghost use Rattle.calendar.specs.Plain.{rawPair, plainClock, plainSeconds};
+ghost use Prim.Native.Nat.{_+_, _<_, _≤_};
+ghost use Rattle.calendar.specs.Plain.{rawPair, rawAt, plainClock, plainSeconds};
 
 // Ten times an octet, and another.
 fn raw_pair(a: u8, b: u8) -> u64
     ensures { λ r. ⌜ (r ≡ rawPair a b) × (r ≤ 2805) ⌝ }
 {
     a as u64 * 10 + b as u64
+}
+
+// Of the two octets at a place.
+fn raw_at(s: &[u8], i: usize) -> u64
+    requires { do ⌜ i + 1 < (← ⟦s.len()⟧) ⌝ }
+    ensures { λ r. ⌜ (r ≡ rawAt (now (s .entry)) i) × (r ≤ 2805) ⌝ }
+{
+    raw_pair(s[i], s[i + 1])
 }
 
 // The seconds since 1970 of a date and a time of day, by their pairs.
@@ -54,12 +62,12 @@ pub fn seconds_of(s: &[u8]) -> u64
         return 0;
     }
     plain_clock(
-        raw_pair(s[0], s[1]),
-        raw_pair(s[2], s[3]),
-        raw_pair(s[4], s[5]),
-        raw_pair(s[6], s[7]),
-        raw_pair(s[8], s[9]),
-        raw_pair(s[10], s[11]),
-        raw_pair(s[12], s[13]),
+        raw_at(s, 0),
+        raw_at(s, 2),
+        raw_at(s, 4),
+        raw_at(s, 6),
+        raw_at(s, 8),
+        raw_at(s, 10),
+        raw_at(s, 12),
     )
 }

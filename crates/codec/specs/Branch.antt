@@ -13,7 +13,7 @@ use Rattle.octets.specs.Octets.{Octets}
 use Rattle.octets.specs.OctetsLaws.{octets-drop}
 use Rattle.codec.specs.Codec.{Read, read, broke, Got, got, bad, Whole, Element}
 use Rattle.codec.specs.Outcome.{further, further-read, onGot, onGot-read}
-use Rattle.codec.specs.Parts.{small-left, small-right}
+use Rattle.codec.specs.PartLaws.{small-left, small-right}
 use Rattle.codec.specs.Sequence.{further-within, field-octets}
 
 -- after an element of n octets, by whether it passes: the first list, or the second

@@ -1,16 +1,16 @@
--- What every codec has by its laws: a form has an octet, what was taken is the form, one value has
--- one form, and one form stands for one value.
--- form-some; got-size, got-form, got-rest; whole-unique, element-unique; whole-injective,
--- element-injective.
+-- What every codec has by its laws: a form has an octet, what was taken is as long as the form, one form
+-- stands for one value, one value has one form, and a wrong place lies inside.
+-- form-some; got-size; element-injective; whole-unique, whole-size, after-place.
 -- Assumes nothing.
-use Prim.Native.Nat.{ℕ, zero, suc, _^_, _<_}
+use Prim.Native.Nat.{ℕ, zero, suc, _+_, _^_, _≤_, _<_}
 use native.Mathlib.Omega.{arith}
 use mathlib.Core.Path.{_≡_, refl, sym, ap, _∙_}
 use mathlib.Core.List.{List, [], _++_}
-use lib.ListN.{length, take, drop, length-append, length-drop}
-use lib.Seq.{take-at, drop-at}
+use lib.ListN.{length, drop, length-append, length-drop}
+use mir.Syntax.{w64}
+use mir.Val.{Fits}
 use Rattle.octets.specs.Octets.{Octets}
-use Rattle.codec.specs.Codec.{read, got, Whole, Element}
+use Rattle.codec.specs.Codec.{read, broke, got, Whole, Element}
 
 module _ {A : Type 0} (e : Element A) where
   -- a form has an octet, however long it is
@@ -29,19 +29,6 @@ module _ {A : Type 0} (e : Element A) where
         let i = e .inside s a n q in
         omega (arith, length-drop n s, simp length-append at (ap length (v .1)))
 
-    pub got-form : take n s ≡ e .enc a
-    got-form = ap (take n) (e .sound s a n o q .1) ∙ take-at (e .enc a) (drop n s) n got-size
-
-    -- and leaves what follows it
-    pub got-rest : (r : List ℕ) → s ≡ e .enc a ++ r → drop n s ≡ r
-    got-rest r i = ap (drop n) i ∙ drop-at (e .enc a) r n got-size
-
-  -- what is read as one value is the same octets
-  pub element-unique : (s t : List ℕ) (a : A) (m n : ℕ) → Octets s → Octets t → e .dec s ≡ got a m → e .dec t ≡ got a n
-      → (m ≡ n) × (take m s ≡ take n t)
-  element-unique s t a m n o p x y =
-      (sym (got-size s a m o x) ∙ got-size t a n p y, got-form s a m o x ∙ sym (got-form t a n p y))
-
   -- two values within the limits that have one form are one
   pub element-injective : (a b : A) → e .ok a → e .ok b → length (e .enc a) < 2 ^ 64 → e .enc a ≡ e .enc b → a ≡ b
   element-injective a b h k z q =
@@ -55,8 +42,12 @@ module _ {A : Type 0} (w : Whole A) where
   pub whole-unique : (s t : List ℕ) (a : A) → Octets s → Octets t → w .dec s ≡ read a → w .dec t ≡ read a → s ≡ t
   whole-unique s t a o p x y = w .sound s a o x .1 ∙ sym (w .sound t a p y .1)
 
-  pub whole-injective : (a b : A) → w .ok a → w .ok b → length (w .enc a) < 2 ^ 64 → w .enc a ≡ w .enc b → a ≡ b
-  whole-injective a b h k z q =
-      let y : length (w .enc b) < 2 ^ 64 = rw q at z in
-      let p : read a ≡ read b = sym (w .complete a h z) ∙ ap (w .dec) q ∙ w .complete b k y in
-      cc
+  -- a whole list is as long as its value's form
+  pub whole-size : (s : List ℕ) (a : A) → Octets s → w .dec s ≡ read a → length (w .enc a) ≡ length s
+  whole-size s a o q = ap length (sym (w .sound s a o q .1))
+
+  -- a wrong place of what follows the first n is counted in 64 bits
+  pub after-place : (n : ℕ) (s : List ℕ) (p : ℕ) → w .dec (drop n s) ≡ broke p → n ≤ length s → length s < 2 ^ 64 → Fits w64 (n + p)
+  after-place n s p q le z =
+      let v = w .within (drop n s) p q in
+      record { fits = omega (arith, length-drop n s) }

@@ -1,6 +1,6 @@
 -- Contents of primitive elements: octets that pass a test, one string of octets, and a content under
 -- another name. A content read as a whole list refuses its start.
--- octetsContent, fixedContent, mappedContentTo, mappedContentOk, mappedContent, filled.
+-- octetsContent, fixedContent, mappedContentTo, filled.
 -- Assumes nothing.
 use Prim.Native.Nat.{ℕ, _^_, _≤_, _<_}
 use native.Mathlib.Omega.{arith}
@@ -13,7 +13,7 @@ use Rattle.octets.specs.Octets.{Octets}
 use Rattle.octets.specs.Same.{sameOf}
 use Rattle.octets.specs.SameLaws.{same-true, same-refl}
 use Rattle.codec.specs.Codec.{Read, read, broke, Content, Whole}
-use Rattle.codec.specs.Outcome.{broke-read, read-broke, start-whole, Names, names-ok}
+use Rattle.codec.specs.Outcome.{broke-read, read-broke, start-whole, Names}
 
 none-some : {A X : Type 0} {a : A} → none ≡ some a → X
 none-some e = let z : _≡_ {A = ℕ} 0 1 = cc in absurd (omega arith)
@@ -105,16 +105,6 @@ module _ {A B : Type 0} (f : A → B) (g : B → A) (limits : B → Type 0) (w :
     complete = mapped-complete;
     octets = λ b h. w .octets (g b) (names .back b h .0);
   }
-
--- its limits are those of the value that it names; the two ways undo one another within them
-abbrev pub mappedContentOk : {A B : Type 0} (f : A → B) (g : B → A) (w : Content A)
-    → ((b : B) → w .ok (g b) → f (g b) ≡ b) → ((a : A) → w .ok a → g (f a) ≡ a) → Content B
-mappedContentOk f g w fg gf = mappedContentTo f g (λ b. w .ok (g b)) w (names-ok f g (w .ok) fg gf)
-
--- they do so everywhere
-abbrev pub mappedContent : {A B : Type 0} (f : A → B) (g : B → A) → ((b : B) → f (g b) ≡ b) → ((a : A) → g (f a) ≡ a)
-    → Content A → Content B
-mappedContent f g fg gf w = mappedContentOk f g w (λ b h. fg b) (λ a h. gf a)
 
 -- a content as a whole list
 abbrev pub orStart : {A : Type 0} → Option A → Read A

@@ -14,7 +14,7 @@ use Rattle.octets.specs.OctetsLaws.{octets-drop}
 use Rattle.codec.specs.Codec.{Read, read, broke, Got, got, bad, Whole, Element}
 use Rattle.codec.specs.CodecLaws.{form-some}
 use Rattle.codec.specs.Outcome.{broke-read, start-whole, further, further-read, onGot, onGot-read}
-use Rattle.codec.specs.Parts.{small-left, small-right}
+use Rattle.codec.specs.PartLaws.{small-left, small-right}
 use Rattle.codec.specs.Sequence.{next-within}
 use Rattle.codec.specs.Many.{enough, enough-read, enough-broke, forms, All, many-octets}
 

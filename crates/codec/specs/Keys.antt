@@ -1,6 +1,6 @@
 -- Keys that are octets, and where a key stands: a content that is none of those before it, and the
 -- element, sequence and names around it.
--- newTo, newContent; keyed-content, keyed-primitive, keyed-tagged, keyed-field, keyed-only,
+-- newTo, newContent; keyed-content, keyed-primitive, keyed-tagged, keyed-field,
 -- keyed-mappedOk, keyed-mapped.
 -- Assumes nothing.
 use Prim.Native.Nat.{ℕ, _<_}
@@ -16,7 +16,7 @@ use Rattle.codec.specs.Codec.{Content, Whole, Element}
 use Rattle.codec.specs.Contents.{octetsContent}
 use Rattle.codec.specs.Tagged.{tagged, primitive}
 use Rattle.codec.specs.Mapped.{mapped, mappedOk}
-use Rattle.codec.specs.Sequence.{field, only}
+use Rattle.codec.specs.Sequence.{field}
 use Rattle.codec.specs.Each.{Fresh, Keyed, KeyedElement}
 
 -- whether octets are none of those
@@ -97,10 +97,6 @@ keyed-field key e w k = record {
   fresh = λ seen x h. let v = k .fresh seen (x .0) (h .0) in ((v .0, h .1), v .1);
   allowed = λ seen x h f. (k .allowed seen (x .0) (h .0) f, h .1);
 }
-
-pub keyed-only : {A K : Type 0} (key : A → K) (e : List K → Element A) → KeyedElement key e
-    → Keyed key (λ seen. only (e seen) .enc) (λ seen. only (e seen) .ok)
-keyed-only key e k = record { form = k .form; fresh = k .fresh; allowed = k .allowed }
 
 -- the same key under other names
 pub keyed-mappedOk : {A B K : Type 0} (key : A → K) (f : A → B) (g : B → A) (w : List K → Whole A)

@@ -1,7 +1,7 @@
 pub mod Codec
 pub mod CodecLaws
 pub mod Outcome
-pub mod Parts
+pub mod PartLaws
 pub mod Contents
 pub mod Tagged
 pub mod Mapped
@@ -24,3 +24,4 @@ pub mod Views
 pub mod Examples
 pub mod TreeExamples
 pub mod ViewLaws
+pub mod TurnLaws

@@ -16,7 +16,7 @@ use Rattle.octets.specs.OctetsLaws.{octets-append, octets-drop}
 use Rattle.codec.specs.Codec.{Read, read, broke, Got, got, bad, Whole, Element}
 use Rattle.codec.specs.CodecLaws.{form-some}
 use Rattle.codec.specs.Outcome.{broke-read, read-broke, start-whole, further, further-read, onGot, onGot-read}
-use Rattle.codec.specs.Parts.{small-left, small-right}
+use Rattle.codec.specs.PartLaws.{small-left, small-right}
 use Rattle.codec.specs.Sequence.{next-within}
 
 -- the end, where lo more are wanted

@@ -13,7 +13,7 @@ use Rattle.octets.specs.Octets.{Octets}
 use Rattle.octets.specs.OctetsLaws.{octets-append, octets-drop}
 use Rattle.codec.specs.Codec.{Read, read, broke, Got, Whole, Element}
 use Rattle.codec.specs.Outcome.{further, further-read, onGot, onGot-read, renamed, renamed-read, renamed-broke}
-use Rattle.codec.specs.Parts.{small-left, small-right}
+use Rattle.codec.specs.PartLaws.{small-left, small-right}
 use Rattle.codec.specs.Sequence.{next-within}
 use Rattle.codec.specs.Starts.{startsWith, Starts, Apart, starts-append}
 

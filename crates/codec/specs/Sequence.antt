@@ -12,7 +12,7 @@ use Rattle.octets.specs.Octets.{Octets}
 use Rattle.octets.specs.OctetsLaws.{octets-append, octets-drop}
 use Rattle.codec.specs.Codec.{Read, read, broke, Got, got, bad, Whole, Element}
 use Rattle.codec.specs.Outcome.{broke-read, read-broke, start-whole, further, further-read, further-broke, onGot, onGot-read}
-use Rattle.codec.specs.Parts.{small-left, small-right}
+use Rattle.codec.specs.PartLaws.{small-left, small-right}
 use Rattle.codec.specs.Mapped.{mapped, mappedDec}
 
 -- nothing more

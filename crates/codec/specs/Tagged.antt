@@ -22,7 +22,7 @@ use Rattle.element.specs.declared.Header.{Header}
 use Rattle.element.specs.declared.Header.the-variants.{Found, Refused}
 use Rattle.codec.specs.Codec.{Read, Got, got, bad, Content, Whole, Element}
 use Rattle.codec.specs.Outcome.{bad-got, attach, attach-got, attach-bad, tested-got, start-head}
-use Rattle.codec.specs.Parts.{part-of, form-found, form-content, small-content}
+use Rattle.codec.specs.PartLaws.{part-of, form-found, form-content, small-content}
 use Rattle.codec.specs.Contents.{filled}
 
 -- where a place in the content is, after a header of h octets: there, or at the element itself

@@ -15,7 +15,7 @@ use Rattle.octets.specs.OctetsLaws.{octets-append}
 use Rattle.element.specs.Tag.{tagOf, tagOk}
 use Rattle.element.specs.Form.{formOf}
 use Rattle.element.specs.FormLaws.{form-octets}
-use Rattle.codec.specs.Parts.{small-left, small-right, small-content}
+use Rattle.codec.specs.PartLaws.{small-left, small-right, small-content}
 use Rattle.codec.specs.Many.{forms, All}
 
 mutual

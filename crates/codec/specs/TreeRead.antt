@@ -17,7 +17,7 @@ use Rattle.element.specs.declared.Header.{Header}
 use Rattle.element.specs.declared.Header.the-variants.{Found, Refused}
 use Rattle.codec.specs.Codec.{read, Got, got, bad, Element}
 use Rattle.codec.specs.Outcome.{bad-got, got-bad, start-head, renamed, renamed-read, renamed-broke, attach, attach-got, attach-bad}
-use Rattle.codec.specs.Parts.{Part, part-of, form-found, form-content, small-content}
+use Rattle.codec.specs.PartLaws.{Part, part-of, form-found, form-content, small-content}
 use Rattle.codec.specs.Tagged.{inner}
 use Rattle.codec.specs.Many.{allDec, forms}
 use Rattle.codec.specs.Any.{all}

@@ -17,8 +17,7 @@ use Rattle.element.specs.declared.Header.{Header}
 use Rattle.element.specs.declared.Header.the-variants.{Found, Refused}
 use Rattle.codec.specs.Codec.{Got, got, bad, Element}
 use Rattle.codec.specs.Outcome.{bad-got, start-head, tested-got}
-use Rattle.codec.specs.Parts.{form-found, small-content}
-use Rattle.codec.specs.Starts.{startsWith}
+use Rattle.codec.specs.PartLaws.{form-found, small-content}
 use Rattle.codec.specs.Tree.{Tree, prim, node, treeTag, treeEnc, runEnc, TreeOk, Upto}
 use Rattle.codec.specs.TreeRead.{treeDec, tree-laws, upto-octets}
 
@@ -39,11 +38,6 @@ pub tree-first : (a : Tree) (r : List ℕ) → getD (treeEnc a ++ r) 0 0 ≡ tre
 unfolding treeEnc formOf
 tree-first (prim t c) r = refl
 tree-first (node t x) r = refl
-
-pub tree-starts : (t : ℕ) (a : Tree) → treeTag a ≡ t → startsWith t (treeEnc a) ≡ true
-unfolding treeEnc formOf startsWith
-tree-starts t (prim u c) e = eq-eqb u t e
-tree-starts t (node u x) e = eq-eqb u t e
 
 -- and have its header at their head
 tree-found : (d : ℕ) (a : Tree) (r : List ℕ) → Upto d a → length (treeEnc a) < 2 ^ 64

@@ -1,27 +1,22 @@
 -- Laws of readings seen as positions: what an answer tells of the reading, and how the answer for a
 -- sequence, an option or an element is made of the answers for its parts.
 -- step-taken, step-bad, fit-fits, fit-breaks; fit-further, fit-renamed, step-called, later-later;
--- fit-mapped, fit-field, fit-option, fit-only, fit-filled; step-refused, step-other, step-fits,
+-- fit-mapped, fit-field, fit-only; step-refused, step-fits,
 -- step-breaks.
 -- Assumes nothing.
 use Prim.Native.Nat.{ℕ, _+_, _≤_, _<_}
 use native.Mathlib.Omega.{arith}
 use mathlib.Core.Path.{_≡_, refl, ap, _∙_}
-use mathlib.Core.Bool.{true, false}
 use mathlib.Core.List.{List, [], _∷_}
-use mathlib.Core.Option.{Option, none, some}
 use lib.ListN.{length, take, drop, length-drop, drop-of-length-le}
-use borrow.Author.Tests.{eq-eqb, ne-eqb}
+use borrow.Author.Tests.{eq-eqb}
 use Rattle.element.specs.Header.{headerOf}
 use Rattle.element.specs.declared.Header.the-variants.{Found, Refused}
 use Rattle.codec.specs.Codec.{Read, read, broke, Got, got, bad, Whole, Element}
 use Rattle.codec.specs.Outcome.{further, renamed, called}
 use Rattle.codec.specs.Tagged.{taggedDec}
-use Rattle.codec.specs.Contents.{filledDec}
 use Rattle.codec.specs.Mapped.{mappedDec}
 use Rattle.codec.specs.Sequence.{endDec, fieldDec, onlyDec}
-use Rattle.codec.specs.Starts.{startsWith}
-use Rattle.codec.specs.Option.{optionOf, optionDec}
 use Rattle.codec.specs.Views.{stepOf, fitOf, later}
 use Rattle.codec.specs.declared.Step.the-variants.{Taken, Bad}
 use Rattle.codec.specs.declared.Fit.{Fit}
@@ -100,20 +95,6 @@ module _ {A B : Type 0} (d : List ℕ → Got A) (d′ : List ℕ → Read B) (s
   unfolding fieldDec
   fit-field a n q = rw q (fit-further n (λ b. (a, b)) (d′ (drop n s)))
 
-  -- maybe an element, then a whole list
-  module _ (t : ℕ) where
-    pub fit-option-none : startsWith t s ≡ false → fitOf (optionDec t d d′ s) ≡ fitOf (d′ s)
-    unfolding optionDec optionOf
-    fit-option-none b = rw b (fit-renamed (λ (y : B). (none, y)) (d′ s))
-
-    pub fit-option-bad : startsWith t s ≡ true → (p : ℕ) → d s ≡ bad p → fitOf (optionDec t d d′ s) ≡ Breaks p
-    unfolding optionDec optionOf fitOf
-    fit-option-bad b p q = rw (b, q)
-
-    pub fit-option : startsWith t s ≡ true → (a : A) (n : ℕ) → d s ≡ got a n → fitOf (optionDec t d d′ s) ≡ later n (fitOf (d′ (drop n s)))
-    unfolding optionDec optionOf
-    fit-option b a n q = rw (b, q) (fit-further n (λ y. (some a, y)) (d′ (drop n s)))
-
 -- an element that fills its holder
 module _ {A : Type 0} (d : List ℕ → Got A) (s : List ℕ) where
   pub fit-only-bad : (p : ℕ) → d s ≡ bad p → fitOf (onlyDec d s) ≡ Breaks p
@@ -136,16 +117,6 @@ module _ {A : Type 0} (d : List ℕ → Got A) (s : List ℕ) where
       left [] h = absurd (omega arith)
       left (x ∷ l) h = refl
 
--- a content as a whole list
-module _ {A : Type 0} (d : List ℕ → Option A) (c : List ℕ) where
-  pub fit-filled : (a : A) → d c ≡ some a → fitOf (filledDec d c) ≡ Fits
-  unfolding filledDec fitOf
-  fit-filled a q = rw q
-
-  pub fit-filled-none : d c ≡ none → fitOf (filledDec d c) ≡ Breaks 0
-  unfolding filledDec fitOf
-  fit-filled-none q = rw q
-
 -- an element with a tag, by its header
 module _ {A : Type 0} (at : ℕ → ℕ → ℕ) (t : ℕ) (d : List ℕ → Read A) (s : List ℕ) where
   pub step-refused : (p : ℕ) → headerOf s ≡ Refused p → stepOf (taggedDec at t d s) ≡ Bad p
@@ -153,14 +124,6 @@ module _ {A : Type 0} (at : ℕ → ℕ → ℕ) (t : ℕ) (d : List ℕ → Rea
   step-refused p q = rw q
 
   module _ (u h n : ℕ) (q : headerOf s ≡ Found u h n) where
-    pub step-other : (u ≡ t → ⊥) → stepOf (taggedDec at t d s) ≡ Bad 0
-    unfolding taggedDec stepOf
-    step-other o = rw (q, ne-eqb u t o)
-
     pub step-fits : u ≡ t → fitOf (d (take n (drop h s))) ≡ Fits → stepOf (taggedDec at t d s) ≡ Taken (h + n)
     unfolding taggedDec stepOf
     step-fits o f = rw (q, eq-eqb u t o, read-of (d (take n (drop h s))) f .1)
-
-    pub step-breaks : u ≡ t → (p : ℕ) → fitOf (d (take n (drop h s))) ≡ Breaks p → stepOf (taggedDec at t d s) ≡ Bad (at h p)
-    unfolding taggedDec stepOf
-    step-breaks o p f = rw (q, eq-eqb u t o, broke-of (d (take n (drop h s))) p f)

@@ -6,21 +6,19 @@
 -- `a`, counted `a .0`, `a .1 .0`, `a .1 .1 .0`, and what is written is among the parameters at exit `e`, counted likewise.
 -- Assumes nothing.
 use mathlib.Core.Path.{_≡_}
-use mathlib.Core.Bool.{cond}
-use lib.Dec.{ltb}
 use lib.ListN.{length}
 use denote.Ref.{now}
-use Rattle.octets.specs.Buffer.{putIn}
-use Rattle.response.specs.Parts.{judgedOf}
-use Rattle.response.specs.Refusals.{refusalOf}
+use Rattle.octets.specs.Buffer.{putIn, putSize}
+use Rattle.read_response.specs.Parts.{judgedOf}
+use Rattle.read_response.specs.Refusals.{refusalOf}
 use Rattle.show.specs.Shown.{entryOf}
 use Rattle.slip.specs.Slip.{slipOf, readOf}
-use Rattle.question.specs.Asked.{asked}
-use Rattle.desk_c.specs.Places.{signedIn, algorithmIn, signatureIn, certificatesIn, entryNumber, entrySpan}
+use Rattle.desk_question.specs.Asked.{asked}
+use Rattle.desk_c.specs.Places.{signedSpan, algorithmIn, signatureSpan, certificatesIn, entryNumber, entrySpan}
 use Rattle.desk_c.specs.Papers.{slipNumber, requestSize, requestIn}
 use Rattle.cache_rules.specs.Cache.{filedOf, bufferOf}
 use Rattle.cache_rules.specs.Numbers.{filedNumber, filedCount}
-use Rattle.cache_ask.specs.Found.{foundOf}
+use Rattle.cache_ask.specs.Found.{askFound}
 use Rattle.desk_c.specs.Caches.{clockAt, foundNumber, foundSpan}
 use Rattle.desk_c.proofs.desk_request.Reads as desk-request
 use Rattle.desk_c.proofs.desk_request.Statement as desk-request-contract
@@ -55,9 +53,9 @@ use Rattle.desk_c.proofs.desk_cache_file.Met as desk-cache-file-theorem
 use Rattle.desk_c.proofs.desk_cache_ask.Reads as desk-cache-ask
 use Rattle.desk_c.proofs.desk_cache_ask.Statement as desk-cache-ask-contract
 use Rattle.desk_c.proofs.desk_cache_ask.Met as desk-cache-ask-theorem
-use Rattle.deskcase.proofs.slip_for.Reads as slip-for
-use Rattle.deskcase.proofs.slip_for.Statement as slip-for-contract
-use Rattle.deskcase.proofs.slip_for.Met as slip-for-theorem
+use Rattle.desk_case.proofs.slip_for.Reads as slip-for
+use Rattle.desk_case.proofs.slip_for.Statement as slip-for-contract
+use Rattle.desk_case.proofs.slip_for.Met as slip-for-theorem
 use Rattle.contracts.specs.Functions.{Tells}
 
 -- ── desk_request(card, out): how many octets, or 0, and the buffer ──
@@ -82,8 +80,8 @@ desk-signed-met = desk-signed-theorem.met
 
 pub desk-signed-tells : Tells desk-signed.Learnt (λ k a z e.
     (z ≡ refusalOf (judgedOf (now (a .0))) .number)
-    × (now (e .1 .0) ≡ signedIn (judgedOf (now (a .0))) .start)
-    × (now (e .1 .1 .0) ≡ signedIn (judgedOf (now (a .0))) .len))
+    × (now (e .1 .0) ≡ signedSpan (judgedOf (now (a .0))) .start)
+    × (now (e .1 .1 .0) ≡ signedSpan (judgedOf (now (a .0))) .len))
 desk-signed-tells k a z e p = (p .0, p .1 .0, p .1 .1)
 
 -- ── desk_algorithm(response, from, len): the refusal or 0, and where the algorithm identifier is ──
@@ -102,8 +100,8 @@ desk-signature-met = desk-signature-theorem.met
 
 pub desk-signature-tells : Tells desk-signature.Learnt (λ k a z e.
     (z ≡ refusalOf (judgedOf (now (a .0))) .number)
-    × (now (e .1 .0) ≡ signatureIn (judgedOf (now (a .0))) .start)
-    × (now (e .1 .1 .0) ≡ signatureIn (judgedOf (now (a .0))) .len))
+    × (now (e .1 .0) ≡ signatureSpan (judgedOf (now (a .0))) .start)
+    × (now (e .1 .1 .0) ≡ signatureSpan (judgedOf (now (a .0))) .len))
 desk-signature-tells k a z e p = (p .0, p .1 .0, p .1 .1)
 
 -- ── desk_certificates(response, from, len): the refusal or 0, and where the certificates are ──
@@ -121,7 +119,7 @@ pub desk-check-met : {M : Type 1} → desk-check-contract.statement M
 desk-check-met = desk-check-theorem.met
 
 pub desk-check-tells : Tells desk-check.Learnt (λ k a z e.
-    (z ≡ cond (ltb (length (now (a .1 .1 .0))) (length (slipOf (asked (now (a .0)) (now (a .1 .0)))))) 0 (length (slipOf (asked (now (a .0)) (now (a .1 .0))))))
+    (z ≡ putSize (now (a .1 .1 .0)) (slipOf (asked (now (a .0)) (now (a .1 .0)))))
     × (now (e .1 .1 .0) ≡ putIn (now (a .1 .1 .0)) 0 (slipOf (asked (now (a .0)) (now (a .1 .0))))))
 desk-check-tells k a z e p = (p .0, p .1 .0)
 
@@ -157,16 +155,16 @@ pub desk-cache-ask-met : {M : Type 1} → desk-cache-ask-contract.statement M
 desk-cache-ask-met = desk-cache-ask-theorem.met
 
 pub desk-cache-ask-tells : Tells desk-cache-ask.Learnt (λ k a z e.
-    (z ≡ foundNumber (foundOf (clockAt (a .1 .1 .0) (a .1 .1 .1 .0)) (now (a .1 .0)) (now (a .0))))
-    × (now (e .1 .1 .1 .1 .0) ≡ foundSpan (now (a .0)) (foundOf (clockAt (a .1 .1 .0) (a .1 .1 .1 .0)) (now (a .1 .0)) (now (a .0))) .start)
-    × (now (e .1 .1 .1 .1 .1 .0) ≡ foundSpan (now (a .0)) (foundOf (clockAt (a .1 .1 .0) (a .1 .1 .1 .0)) (now (a .1 .0)) (now (a .0))) .len))
+    (z ≡ foundNumber (askFound (clockAt (a .1 .1 .0) (a .1 .1 .1 .0)) (now (a .1 .0)) (now (a .0))))
+    × (now (e .1 .1 .1 .1 .0) ≡ foundSpan (now (a .0)) (askFound (clockAt (a .1 .1 .0) (a .1 .1 .1 .0)) (now (a .1 .0)) (now (a .0))) .start)
+    × (now (e .1 .1 .1 .1 .1 .0) ≡ foundSpan (now (a .0)) (askFound (clockAt (a .1 .1 .0) (a .1 .1 .1 .0)) (now (a .1 .0)) (now (a .0))) .len))
 desk-cache-ask-tells k a z e p = (p .0, p .1 .0, p .1 .1)
 
--- ── deskcase::slip_for(question, response, slip): as desk_check ──
+-- ── desk_case::slip_for(question, response, slip): as desk_check ──
 pub slip-for-met : {M : Type 1} → slip-for-contract.statement M
 slip-for-met = slip-for-theorem.met
 
 pub slip-for-tells : Tells slip-for.Learnt (λ k a z e.
-    (z ≡ cond (ltb (length (now (a .1 .1 .0))) (length (slipOf (asked (now (a .0)) (now (a .1 .0)))))) 0 (length (slipOf (asked (now (a .0)) (now (a .1 .0))))))
+    (z ≡ putSize (now (a .1 .1 .0)) (slipOf (asked (now (a .0)) (now (a .1 .0)))))
     × (now (e .1 .1 .0) ≡ putIn (now (a .1 .1 .0)) 0 (slipOf (asked (now (a .0)) (now (a .1 .0))))))
 slip-for-tells k a z e p = (p .0, p .1)

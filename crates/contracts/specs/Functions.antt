@@ -7,21 +7,21 @@
 -- Assumes nothing.
 use mathlib.Core.Path.{_≡_}
 use denote.Ref.{now}
-use Rattle.response.specs.Parts.{judgedOf}
-use Rattle.response.specs.Refusals.{refusalOf}
+use Rattle.read_response.specs.Parts.{judgedOf}
+use Rattle.read_response.specs.Refusals.{refusalOf}
 use Rattle.show.specs.Shown.{signedOf, signatureOf}
 use Rattle.rules.specs.Ruling.{answerOf}
 use Rattle.cache_rules.specs.Cache.{filedOf, bufferOf, askOf}
-use Rattle.cache_ask.specs.Found.{foundOf}
-use Rattle.ruling.proofs.check.Reads as check
-use Rattle.ruling.proofs.check.Statement as check-contract
-use Rattle.ruling.proofs.check.Met as check-theorem
-use Rattle.response.proofs.judge.Reads as judge
-use Rattle.response.proofs.judge.Statement as judge-contract
-use Rattle.response.proofs.judge.Met as judge-theorem
-use Rattle.response.proofs.refuse.Reads as refuse
-use Rattle.response.proofs.refuse.Statement as refuse-contract
-use Rattle.response.proofs.refuse.Met as refuse-theorem
+use Rattle.cache_ask.specs.Found.{askFound}
+use Rattle.rule_check.proofs.check.Reads as check
+use Rattle.rule_check.proofs.check.Statement as check-contract
+use Rattle.rule_check.proofs.check.Met as check-theorem
+use Rattle.read_response.proofs.judge.Reads as judge
+use Rattle.read_response.proofs.judge.Statement as judge-contract
+use Rattle.read_response.proofs.judge.Met as judge-theorem
+use Rattle.read_response.proofs.refuse.Reads as refuse
+use Rattle.read_response.proofs.refuse.Statement as refuse-contract
+use Rattle.read_response.proofs.refuse.Met as refuse-theorem
 use Rattle.show.proofs.signed_part.Reads as signed-part
 use Rattle.show.proofs.signed_part.Statement as signed-part-contract
 use Rattle.show.proofs.signed_part.Met as signed-part-theorem
@@ -42,21 +42,21 @@ use Rattle.cache_ask.proofs.ask.Met as ask-theorem
 abbrev pub Tells : {K : Type 0} {A Z E : K → Type 0} → ((k : K) → A k → Z k → E k → Type 0) → ((k : K) → A k → Z k → E k → Type 0) → Type 0
 Tells {K} {A} {Z} {E} Learnt Claim = (k : K) (a : A k) (z : Z k) (e : E k) → Learnt k a z e → Claim k a z e
 
--- ── ruling::check(question, name, response): the answer ──
+-- ── rule_check::check(question, name, response): the answer ──
 pub check-met : {M : Type 1} → check-contract.statement M
 check-met = check-theorem.met
 
 pub check-tells : Tells check.Learnt (λ k a z e. z ≡ answerOf (a .0) (now (a .1 .0)) (now (a .1 .1 .0)))
 check-tells k a z e p = p
 
--- ── response::judge(response): what it is, and where its parts are ──
+-- ── read_response::judge(response): what it is, and where its parts are ──
 pub judge-met : {M : Type 1} → judge-contract.statement M
 judge-met = judge-theorem.met
 
 pub judge-tells : Tells judge.Learnt (λ k a z e. z ≡ judgedOf (now (a .0)))
 judge-tells k a z e p = p
 
--- ── response::refuse(response): the refusal from 2 to 5, or 0 ──
+-- ── read_response::refuse(response): the refusal from 2 to 5, or 0 ──
 pub refuse-met : {M : Type 1} → refuse-contract.statement M
 refuse-met = refuse-theorem.met
 
@@ -88,7 +88,7 @@ file-tells k a z e p = (p .0, p .1)
 pub find-met : {M : Type 1} → find-contract.statement M
 find-met = find-theorem.met
 
-pub find-tells : Tells find.Learnt (λ k a z e. z ≡ foundOf (a .1 .1 .0) (now (a .1 .0)) (now (a .0)))
+pub find-tells : Tells find.Learnt (λ k a z e. z ≡ askFound (a .1 .1 .0) (now (a .1 .0)) (now (a .0)))
 find-tells k a z e p = p
 
 -- ── cache_ask::ask(cache, card, clock): what is told of the card ──

@@ -14,18 +14,18 @@ use lib.ListN.{length, take, drop}
 use lib.Seq.{take-at}
 use borrow.Author.Tests.{ltb-false}
 use denote.Ref.{now}
-use Rattle.octets.specs.Buffer.{putIn}
+use Rattle.octets.specs.Buffer.{putIn, putSize}
 use Rattle.octets.specs.BufferLaws.{put-in-room}
 use Rattle.slip.specs.Slip.{slipOf, readOf}
 use Rattle.hex.specs.Hex.{hexOf}
-use Rattle.question.specs.Asked.{asked, deskOf}
-use Rattle.question.specs.Line.{lineOf}
-use Rattle.deskline.proofs.line_for.Reads as line-for
+use Rattle.desk_question.specs.Asked.{asked, deskOf}
+use Rattle.desk_question.specs.Line.{lineOf}
+use Rattle.desk_line.proofs.line_for.Reads as line-for
 use Rattle.desk_c.proofs.desk_check.Reads as desk-check
 use Rattle.contracts.specs.Functions.{Tells}
 
 -- where octets were written at the start of a buffer, as many octets of it as were written are those
-first-octets : (out left new : List ℕ) (z : ℕ) → z ≡ cond (ltb (length out) (length new)) 0 (length new) → left ≡ putIn out 0 new
+first-octets : (out left new : List ℕ) (z : ℕ) → z ≡ putSize out new → left ≡ putIn out 0 new
     → (z ≡ 0 → ⊥) → take z left ≡ new
 first-octets out left new z i j n = go (ltb (length out) (length new)) refl i
   where
@@ -41,7 +41,7 @@ pub desk-check-reads : Tells desk-check.Learnt (λ k a z e.
 desk-check-reads k a z e p n =
     ap (readOf 20) (first-octets (now (a .1 .1 .0)) (now (e .1 .1 .0)) (slipOf (asked (now (a .0)) (now (a .1 .0)))) z (p .0) (p .1 .0) n) ∙ p .1 .1
 
--- deskline::line_for(input, out): the line that was written is the hex of a slip, and that slip is read as the answer to the input
+-- desk_line::line_for(input, out): the line that was written is the hex of a slip, and that slip is read as the answer to the input
 pub line-for-reads : Tells line-for.Learnt (λ k a z e.
     (z ≡ 0 → ⊥)
     → (take z (now (e .1 .0)) ≡ hexOf (slipOf (deskOf (now (a .0)))) ++ (10 ∷ [])) × (readOf 20 (slipOf (deskOf (now (a .0)))) ≡ deskOf (now (a .0))))

@@ -9,7 +9,7 @@ use Rattle.fields.proofs.hash_at.Reads as fields-hash-at
 use Rattle.fields.proofs.value_at.Reads as fields-value-at
 use Rattle.fields.proofs.card_in.Reads as fields-card-in
 use Rattle.fields.proofs.room_for.Reads as fields-room-for
-use Rattle.errors.proofs.error_status.Reads as errors-error-status
+use Rattle.read_errors.proofs.error_status.Reads as read-errors-error-status
 use Rattle.request.proofs.write_request.Reads as request-write-request
 use Rattle.slip.proofs.has_card.Reads as slip-has-card
 use Rattle.slip.proofs.size_of.Reads as slip-size-of
@@ -22,9 +22,9 @@ use Rattle.slip_write.proofs.write_unjudged.Reads as slip-write-write-unjudged
 use Rattle.slip_read.proofs.read_slip.Reads as slip-read-read-slip
 use Rattle.hex.proofs.hex.Reads as hex-hex
 use Rattle.hex.proofs.hex_line.Reads as hex-hex-line
-use Rattle.intake.proofs.keep.Reads as intake-keep
-use Rattle.deskcase.proofs.slip_for.Reads as deskcase-slip-for
-use Rattle.deskline.proofs.line_for.Reads as deskline-line-for
+use Rattle.desk_intake.proofs.keep.Reads as desk-intake-keep
+use Rattle.desk_case.proofs.slip_for.Reads as desk-case-slip-for
+use Rattle.desk_line.proofs.line_for.Reads as desk-line-line-for
 
 -- ── crate fields ──
 pub fields-hash-at-settled : Settled fields-hash-at.Asked fields-hash-at.Learnt
@@ -39,9 +39,9 @@ fields-card-in-settled = settled _ _ _ (λ k a. tt) (λ k a z e p. p)
 pub fields-room-for-settled : Settled fields-room-for.Asked fields-room-for.Learnt
 fields-room-for-settled = settled _ _ _ (λ k a. tt) (λ k a z e p. p)
 
--- ── crate errors ──
-pub errors-error-status-settled : Settled errors-error-status.Asked errors-error-status.Learnt
-errors-error-status-settled = settled _ _ _ (λ k a. tt) (λ k a z e p. p)
+-- ── crate read_errors ──
+pub read-errors-error-status-settled : Settled read-errors-error-status.Asked read-errors-error-status.Learnt
+read-errors-error-status-settled = settled _ _ _ (λ k a. tt) (λ k a z e p. p)
 
 -- ── crate request ──
 pub request-write-request-settled : Settled request-write-request.Asked request-write-request.Learnt
@@ -99,23 +99,23 @@ hex-hex-line-settled = settled _ _ _ (λ k a. tt) (λ k a z e p. p .0)
 pub hex-hex-line-buffer : Settles hex-hex-line.Asked hex-hex-line.Learnt (λ k z e. now (e .1 .0))
 hex-hex-line-buffer = settles _ _ (λ k z e. now (e .1 .0)) _ (λ k a. tt) (λ k a z e p. p .1)
 
--- ── crate intake ──
-pub intake-keep-settled : Settled intake-keep.Asked intake-keep.Learnt
-intake-keep-settled = settled _ _ _ (λ k a. tt) (λ k a z e p. p .0)
+-- ── crate desk_intake ──
+pub desk-intake-keep-settled : Settled desk-intake-keep.Asked desk-intake-keep.Learnt
+desk-intake-keep-settled = settled _ _ _ (λ k a. tt) (λ k a z e p. p .0)
 
-pub intake-keep-buffer : Settles intake-keep.Asked intake-keep.Learnt (λ k z e. now (e .0))
-intake-keep-buffer = settles _ _ (λ k z e. now (e .0)) _ (λ k a. tt) (λ k a z e p. p .1)
+pub desk-intake-keep-buffer : Settles desk-intake-keep.Asked desk-intake-keep.Learnt (λ k z e. now (e .0))
+desk-intake-keep-buffer = settles _ _ (λ k z e. now (e .0)) _ (λ k a. tt) (λ k a z e p. p .1)
 
--- ── crate deskcase ──
-pub deskcase-slip-for-settled : Settled deskcase-slip-for.Asked deskcase-slip-for.Learnt
-deskcase-slip-for-settled = settled _ _ _ (λ k a. tt) (λ k a z e p. p .0)
+-- ── crate desk_case ──
+pub desk-case-slip-for-settled : Settled desk-case-slip-for.Asked desk-case-slip-for.Learnt
+desk-case-slip-for-settled = settled _ _ _ (λ k a. tt) (λ k a z e p. p .0)
 
-pub deskcase-slip-for-buffer : Settles deskcase-slip-for.Asked deskcase-slip-for.Learnt (λ k z e. now (e .1 .1 .0))
-deskcase-slip-for-buffer = settles _ _ (λ k z e. now (e .1 .1 .0)) _ (λ k a. tt) (λ k a z e p. p .1)
+pub desk-case-slip-for-buffer : Settles desk-case-slip-for.Asked desk-case-slip-for.Learnt (λ k z e. now (e .1 .1 .0))
+desk-case-slip-for-buffer = settles _ _ (λ k z e. now (e .1 .1 .0)) _ (λ k a. tt) (λ k a z e p. p .1)
 
--- ── crate deskline ──
-pub deskline-line-for-settled : Settled deskline-line-for.Asked deskline-line-for.Learnt
-deskline-line-for-settled = settled _ _ _ (λ k a. tt) (λ k a z e p. p .0)
+-- ── crate desk_line ──
+pub desk-line-line-for-settled : Settled desk-line-line-for.Asked desk-line-line-for.Learnt
+desk-line-line-for-settled = settled _ _ _ (λ k a. tt) (λ k a z e p. p .0)
 
-pub deskline-line-for-buffer : Settles deskline-line-for.Asked deskline-line-for.Learnt (λ k z e. now (e .1 .0))
-deskline-line-for-buffer = settles _ _ (λ k z e. now (e .1 .0)) _ (λ k a. tt) (λ k a z e p. p .1 .0)
+pub desk-line-line-for-buffer : Settles desk-line-line-for.Asked desk-line-line-for.Learnt (λ k z e. now (e .1 .0))
+desk-line-line-for-buffer = settles _ _ (λ k z e. now (e .1 .0)) _ (λ k a. tt) (λ k a z e p. p .1 .0)

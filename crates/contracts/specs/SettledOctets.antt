@@ -14,6 +14,7 @@ use Rattle.element.proofs.tag_of.Reads as element-tag-of
 use Rattle.element.proofs.tag_fits.Reads as element-tag-fits
 use Rattle.element.proofs.length_count.Reads as element-length-count
 use Rattle.element.proofs.read_header.Reads as element-read-header
+use Rattle.element.proofs.is_short.Reads as element-is-short
 use Rattle.element.proofs.put_header.Reads as element-put-header
 use Rattle.content.proofs.oid_fits.Reads as content-oid-fits
 use Rattle.content.proofs.serial_fits.Reads as content-serial-fits
@@ -57,6 +58,9 @@ element-length-count-settled = settled _ _ _ (λ k a. tt) (λ k a z e p. p)
 
 pub element-read-header-settled : Settled element-read-header.Asked element-read-header.Learnt
 element-read-header-settled = settled _ _ _ (λ k a. tt) (λ k a z e p. p)
+
+pub element-is-short-settled : Settled element-is-short.Asked element-is-short.Learnt
+element-is-short-settled = settled _ _ _ (λ k a. tt) (λ k a z e p. p)
 
 pub element-put-header-settled : Settled element-put-header.Asked element-put-header.Learnt
 element-put-header-settled = settled _ _ _ (λ k a. tt) (λ k a z e p. p .0)

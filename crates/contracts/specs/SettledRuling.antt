@@ -10,14 +10,14 @@ use Rattle.answer.proofs.card_fits.Reads as answer-card-fits
 use Rattle.answer.proofs.field_fits.Reads as answer-field-fits
 use Rattle.answer.proofs.same_card.Reads as answer-same-card
 use Rattle.answer.proofs.refuse.Reads as answer-refuse
-use Rattle.matching.proofs.is_for.Reads as matching-is-for
-use Rattle.matching.proofs.serial_size.Reads as matching-serial-size
-use Rattle.search.proofs.search.Reads as search-search
-use Rattle.ranges.proofs.question_fits.Reads as ranges-question-fits
-use Rattle.understood.proofs.strange_in_response.Reads as understood-strange-in-response
-use Rattle.understood.proofs.strange_in_entry.Reads as understood-strange-in-entry
-use Rattle.opened.proofs.open.Reads as opened-open
-use Rattle.ruling.proofs.check.Reads as ruling-check
+use Rattle.rule_matching.proofs.is_for.Reads as rule-matching-is-for
+use Rattle.rule_matching.proofs.serial_size.Reads as rule-matching-serial-size
+use Rattle.rule_search.proofs.search.Reads as rule-search-search
+use Rattle.rule_tests.proofs.question_fits.Reads as rule-tests-question-fits
+use Rattle.rule_tests.proofs.strange_in_response.Reads as rule-tests-strange-in-response
+use Rattle.rule_tests.proofs.strange_in_entry.Reads as rule-tests-strange-in-entry
+use Rattle.rule_response.proofs.open.Reads as rule-response-open
+use Rattle.rule_check.proofs.check.Reads as rule-check-check
 
 -- ── crate answer ──
 pub answer-empty-card-settled : Settled answer-empty-card.Asked answer-empty-card.Learnt
@@ -38,32 +38,31 @@ answer-same-card-settled = settled _ _ _ (λ k a. tt) (λ k a z e p. p)
 pub answer-refuse-settled : Settled answer-refuse.Asked answer-refuse.Learnt
 answer-refuse-settled = settled _ _ _ (λ k a. tt) (λ k a z e p. p)
 
--- ── crate matching ──
-pub matching-is-for-settled : Settled matching-is-for.Asked matching-is-for.Learnt
-matching-is-for-settled = settled _ _ _ (λ k a. tt) (λ k a z e p. p)
+-- ── crate rule_matching ──
+pub rule-matching-is-for-settled : Settled rule-matching-is-for.Asked rule-matching-is-for.Learnt
+rule-matching-is-for-settled = settled _ _ _ (λ k a. tt) (λ k a z e p. p)
 
-pub matching-serial-size-settled : Settled matching-serial-size.Asked matching-serial-size.Learnt
-matching-serial-size-settled = settled _ _ _ (λ k a. tt) (λ k a z e p. p)
+pub rule-matching-serial-size-settled : Settled rule-matching-serial-size.Asked rule-matching-serial-size.Learnt
+rule-matching-serial-size-settled = settled _ _ _ (λ k a. tt) (λ k a z e p. p)
 
--- ── crate search ──
-pub search-search-settled : Settled search-search.Asked search-search.Learnt
-search-search-settled = settled _ _ _ (λ k a. tt) (λ k a z e p. p)
+-- ── crate rule_search ──
+pub rule-search-search-settled : Settled rule-search-search.Asked rule-search-search.Learnt
+rule-search-search-settled = settled _ _ _ (λ k a. tt) (λ k a z e p. p)
 
--- ── crate ranges ──
-pub ranges-question-fits-settled : Settled ranges-question-fits.Asked ranges-question-fits.Learnt
-ranges-question-fits-settled = settled _ _ _ (λ k a. tt) (λ k a z e p. p)
+-- ── crate rule_tests ──
+pub rule-tests-question-fits-settled : Settled rule-tests-question-fits.Asked rule-tests-question-fits.Learnt
+rule-tests-question-fits-settled = settled _ _ _ (λ k a. tt) (λ k a z e p. p)
 
--- ── crate understood ──
-pub understood-strange-in-response-settled : Settled understood-strange-in-response.Asked understood-strange-in-response.Learnt
-understood-strange-in-response-settled = settled _ _ _ (λ k a. tt) (λ k a z e p. p)
+pub rule-tests-strange-in-response-settled : Settled rule-tests-strange-in-response.Asked rule-tests-strange-in-response.Learnt
+rule-tests-strange-in-response-settled = settled _ _ _ (λ k a. tt) (λ k a z e p. p)
 
-pub understood-strange-in-entry-settled : Settled understood-strange-in-entry.Asked understood-strange-in-entry.Learnt
-understood-strange-in-entry-settled = settled _ _ _ (λ k a. tt) (λ k a z e p. p)
+pub rule-tests-strange-in-entry-settled : Settled rule-tests-strange-in-entry.Asked rule-tests-strange-in-entry.Learnt
+rule-tests-strange-in-entry-settled = settled _ _ _ (λ k a. tt) (λ k a z e p. p)
 
--- ── crate opened ──
-pub opened-open-settled : Settled opened-open.Asked opened-open.Learnt
-opened-open-settled = settled _ _ _ (λ k a. tt) (λ k a z e p. p)
+-- ── crate rule_response ──
+pub rule-response-open-settled : Settled rule-response-open.Asked rule-response-open.Learnt
+rule-response-open-settled = settled _ _ _ (λ k a. tt) (λ k a z e p. p)
 
--- ── crate ruling ──
-pub ruling-check-settled : Settled ruling-check.Asked ruling-check.Learnt
-ruling-check-settled = settled _ _ _ (λ k a. tt) (λ k a z e p. p)
+-- ── crate rule_check ──
+pub rule-check-check-settled : Settled rule-check-check.Asked rule-check-check.Learnt
+rule-check-check-settled = settled _ _ _ (λ k a. tt) (λ k a z e p. p)

@@ -1,7 +1,7 @@
 -- Settled contracts of the walk. Its functions over a walk are proved by hand, and of such a function no `Learnt` is passed
 -- on: so each contract's own clause is shown to be a plain claim, in every model of the program logic, and the claim settled.
--- Claim, Plain; CRATE-FUNCTION-plain and CRATE-FUNCTION-settled of start and next, of next also walk-next-part and
--- walk-next-buffer; walk-step-from-settled, places-step-at-settled and places-part-in-settled, as elsewhere.
+-- ExitClaim, Plain; CRATE-FUNCTION-plain and CRATE-FUNCTION-settled of start and next, of next also walk-next-part and
+-- walk-next-buffer; walk-step-from-settled, walk-steps-step-at-settled and walk-steps-part-in-settled, as elsewhere.
 -- What it is to be settled is in Settled. Assumes nothing.
 use mathlib.Core.Path.{_≡_, refl}
 use base.Logic.{emp}
@@ -10,9 +10,9 @@ use contract.Lifetimes.{Lfts}
 use contract.Monad.{fact}
 use denote.Ref.{now}
 use denote.Triple.Clauses.{Ended, AtExit, Clauses}
-use Rattle.walked.specs.Walked.{startOf, sayOf, handOf, movedOf}
-use Rattle.places.proofs.step_at.Reads as places-step-at
-use Rattle.places.proofs.part_in.Reads as places-part-in
+use Rattle.walk_rules.specs.Walked.{startOf, sayOf, handOf, movedOf}
+use Rattle.walk_steps.proofs.step_at.Reads as walk-steps-step-at
+use Rattle.walk_steps.proofs.part_in.Reads as walk-steps-part-in
 use Rattle.walk.proofs.start as walk-start
 use Rattle.walk.proofs.next as walk-next
 use Rattle.walk.proofs.step_from.Reads as walk-step-from
@@ -20,18 +20,18 @@ use Rattle.contracts.specs.Settled.{Settled, settled, Settles, settles}
 
 module _ (T : Ended) where
   -- a claim of the lifetimes, the arguments, the result and the parameters at exit
-  abbrev pub Claim : Type 1
-  Claim = (k : Lfts (T .signature .lifetimes)) → ArgsD (T .signature) k → ResD (T .signature) k → AtExit T k → Type 0
+  abbrev pub ExitClaim : Type 1
+  ExitClaim = (k : Lfts (T .signature .lifetimes)) → ArgsD (T .signature) k → ResD (T .signature) k → AtExit T k → Type 0
 
   -- a contract asks nothing, and ensures this claim
-  abbrev pub Plain : ((w : World) → Clauses (w .𝓤) T) → Claim → Type 2
+  abbrev pub Plain : ((w : World) → Clauses (w .𝓤) T) → ExitClaim → Type 2
   Plain clauses Learnt =
       (w : World) (k : Lfts (T .signature .lifetimes)) (a : ArgsD (T .signature) k) (g : clauses w k a .ghost)
       → (clauses w k a .requires g ≡ emp (w .𝓤))
       × ((z : ResD (T .signature) k) (e : AtExit T k) → clauses w k a .ensures g z e ≡ fact (w .𝓤) (Learnt k a z e))
 
 -- ── start: a walk at the first entry of a lent response ──
-abbrev pub startLearnt : Claim walk-start.ended
+abbrev pub startLearnt : ExitClaim walk-start.ended
 startLearnt k a z e = z ≡ startOf (a .0)
 
 pub walk-start-plain : Plain walk-start.ended (λ w. walk-start.clauses (w .𝓤) (w .H) (w .𝓖 .A) (w .𝓜 .mem) (w .𝓡 .run)) startLearnt
@@ -41,7 +41,7 @@ pub walk-start-settled : Settled (λ k a. Unit {0}) startLearnt
 walk-start-settled = settled _ _ _ (λ k a. tt) (λ k a z e p. p)
 
 -- ── next: what a step of a lent walk says, the octets that it hands out, and the walk then ──
-abbrev pub nextLearnt : Claim walk-next.ended
+abbrev pub nextLearnt : ExitClaim walk-next.ended
 nextLearnt k a z e = (z .says ≡ sayOf (now (a .0))) × (now (z .part) ≡ handOf (now (a .0))) × (now (e .0) ≡ movedOf (now (a .0)))
 
 pub walk-next-plain : Plain walk-next.ended (λ w. walk-next.clauses (w .𝓤) (w .H) (w .𝓖 .A) (w .𝓜 .mem) (w .𝓡 .run)) nextLearnt
@@ -61,8 +61,8 @@ pub walk-step-from-settled : Settled walk-step-from.Asked walk-step-from.Learnt
 walk-step-from-settled = settled _ _ _ (λ k a. tt) (λ k a z e p. p)
 
 -- ── step_at, part_in: a step by the response and the place, and its part by what was said ──
-pub places-step-at-settled : Settled places-step-at.Asked places-step-at.Learnt
-places-step-at-settled = settled _ _ _ (λ k a. tt) (λ k a z e p. p)
+pub walk-steps-step-at-settled : Settled walk-steps-step-at.Asked walk-steps-step-at.Learnt
+walk-steps-step-at-settled = settled _ _ _ (λ k a. tt) (λ k a z e p. p)
 
-pub places-part-in-settled : Settles places-part-in.Asked places-part-in.Learnt (λ k z e. now z)
-places-part-in-settled = settles _ _ (λ k z e. now z) _ (λ k a. tt) (λ k a z e p. p)
+pub walk-steps-part-in-settled : Settles walk-steps-part-in.Asked walk-steps-part-in.Learnt (λ k z e. now z)
+walk-steps-part-in-settled = settles _ _ (λ k z e. now z) _ (λ k a. tt) (λ k a z e p. p)

@@ -5,15 +5,13 @@
 -- among them, and as it is left among the parameters at exit `e`.
 -- Assumes nothing.
 use mathlib.Core.Path.{_≡_}
-use mathlib.Core.Bool.{cond}
-use lib.Dec.{ltb}
 use lib.ListN.{length}
 use denote.Ref.{now}
-use Rattle.octets.specs.Buffer.{putIn}
+use Rattle.octets.specs.Buffer.{putIn, putSize}
 use Rattle.fields.specs.Output.{outputOf, outputIn}
 use Rattle.request.specs.Request.{requestOf, requestRefusal}
 use Rattle.slip.specs.Slip.{slipOf, slipRefusal, readOf}
-use Rattle.question.specs.Line.{lineOf}
+use Rattle.desk_question.specs.Line.{lineOf}
 use Rattle.request.proofs.write_request.Reads as write-request
 use Rattle.request.proofs.write_request.Statement as write-request-contract
 use Rattle.request.proofs.write_request.Met as write-request-theorem
@@ -25,9 +23,9 @@ use Rattle.slip_read.proofs.read_slip.Statement as read-slip-contract
 use Rattle.slip_read.proofs.read_slip.Met as read-slip-theorem
 use Rattle.walk.proofs.next.Statement as next-contract
 use Rattle.walk.proofs.next.Met as next-theorem
-use Rattle.deskline.proofs.line_for.Reads as line-for
-use Rattle.deskline.proofs.line_for.Statement as line-for-contract
-use Rattle.deskline.proofs.line_for.Met as line-for-theorem
+use Rattle.desk_line.proofs.line_for.Reads as line-for
+use Rattle.desk_line.proofs.line_for.Statement as line-for-contract
+use Rattle.desk_line.proofs.line_for.Met as line-for-theorem
 use Rattle.contracts.specs.Functions.{Tells}
 
 -- ── request::write_request(card, out): how many octets or why none, and the buffer ──
@@ -59,11 +57,11 @@ read-slip-tells k a z e p = p
 pub next-met : {M : Type 1} → next-contract.statement M
 next-met = next-theorem.met
 
--- ── deskline::line_for(input, out): the program's line, or 0 and the buffer as it was ──
+-- ── desk_line::line_for(input, out): the program's line, or 0 and the buffer as it was ──
 pub line-for-met : {M : Type 1} → line-for-contract.statement M
 line-for-met = line-for-theorem.met
 
 pub line-for-tells : Tells line-for.Learnt (λ k a z e.
-    (z ≡ cond (ltb (length (now (a .1 .0))) (length (lineOf (now (a .0))))) 0 (length (lineOf (now (a .0)))))
+    (z ≡ putSize (now (a .1 .0)) (lineOf (now (a .0))))
     × (now (e .1 .0) ≡ putIn (now (a .1 .0)) 0 (lineOf (now (a .0)))))
 line-for-tells k a z e p = (p .0, p .1 .0)

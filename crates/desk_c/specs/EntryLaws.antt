@@ -16,25 +16,26 @@ use Rattle.codec.specs.Many.{forms}
 use Rattle.layout.specs.Reading.{Basic, basic}
 use Rattle.layout.specs.Format.{singleResponse}
 use Rattle.layout.specs.Read.{reads, reading}
-use Rattle.response.specs.Parts.{judgedOf}
-use Rattle.response.specs.Refusals.{refusalOf}
-use Rattle.response.specs.JudgedLaws.{judged-basic}
-use Rattle.response.specs.declared.Parts.{Parts}
-use Rattle.response.specs.declared.Judged.{Judged}
-use Rattle.response.specs.declared.Judged.the-variants as judged
+use Rattle.read_response.specs.Parts.{judgedOf}
+use Rattle.read_response.specs.Refusals.{refusalOf}
+use Rattle.read_response.specs.JudgedLaws.{judged-basic}
+use Rattle.read_response.specs.declared.Parts.{Parts}
+use Rattle.read_response.specs.declared.Judged.{Judged}
+use Rattle.read_response.specs.declared.Judged.the-variants as judged
+use Rattle.show.specs.Parts.{emptySpan, noParts, shownParts}
 use Rattle.show.specs.Shown.{octetsIn, entryOf}
 use Rattle.show.specs.EntryLaws.{entry-refused, entry-shown, entry-past, entry-stands}
-use Rattle.spots.specs.ExpectLaws.{never}
-use Rattle.desk_c.specs.Places.{empty, noParts, partsOf, certificatesIn, entryNumber, entrySpan}
-use Rattle.desk_c.specs.PlacesLaws.{held-nothing}
+use Rattle.read_content.specs.ExpectLaws.{never}
+use Rattle.desk_c.specs.Places.{certificatesIn, entryNumber, entrySpan}
+use Rattle.desk_c.specs.HeldLaws.{held-nothing}
 
 module _ (s : List ℕ) where
   -- a response with a refusal has no parts
-  pub parts-none : (refusalOf (judgedOf s) .number ≡ 0 → ⊥) → partsOf (judgedOf s) ≡ noParts
-  unfolding refusalOf partsOf
+  pub parts-none : (refusalOf (judgedOf s) .number ≡ 0 → ⊥) → shownParts (judgedOf s) ≡ noParts
+  unfolding refusalOf shownParts
   parts-none n = go (judgedOf s) n
     where
-      go : (j : Judged) → (refusalOf j .number ≡ 0 → ⊥) → partsOf j ≡ noParts
+      go : (j : Judged) → (refusalOf j .number ≡ 0 → ⊥) → shownParts j ≡ noParts
       go (judged.Basic p) n = absurd (n refl)
       go judged.TooLong n = refl
       go (judged.Unfit p) n = refl
@@ -42,8 +43,8 @@ module _ (s : List ℕ) where
       go judged.OtherType n = refl
 
   -- and nothing lies behind two headers of no octets
-  pub certificates-nothing : (refusalOf (judgedOf s) .number ≡ 0 → ⊥) → certificatesIn s (judgedOf s) ≡ empty
-  certificates-nothing n = held-nothing s (partsOf (judgedOf s) .certificates) (rw (parts-none n) (record { octets = refl; inside = omega arith }))
+  pub certificates-nothing : (refusalOf (judgedOf s) .number ≡ 0 → ⊥) → certificatesIn s (judgedOf s) ≡ emptySpan
+  certificates-nothing n = held-nothing s (shownParts (judgedOf s) .certificates) (rw (parts-none n) (record { octets = refl; inside = omega arith }))
 
 -- ── an entry ──
 module _ (s : List ℕ) (k : ℕ) where
@@ -72,7 +73,7 @@ module _ (s : List ℕ) (k : ℕ) where
     entry-octets o h = rw (entry-shown s b le e k h) (entry-stands s b le e k o .octets)
 
     -- and past the last one the part is empty
-    pub entry-end : length (b .signed .entries) ≤ k → entrySpan (entryOf s k) ≡ empty
+    pub entry-end : length (b .signed .entries) ≤ k → entrySpan (entryOf s k) ≡ emptySpan
     unfolding entrySpan
     entry-end h = rw (entry-past s b le e k h)
 
@@ -81,7 +82,7 @@ module _ (s : List ℕ) (k : ℕ) where
   unfolding entryNumber
   refused-number j e n = rw (entry-refused s k j e n)
 
-  refused-empty : (j : Judged) → judgedOf s ≡ j → ((t : Parts) → j ≡ judged.Basic t → ⊥) → entrySpan (entryOf s k) ≡ empty
+  refused-empty : (j : Judged) → judgedOf s ≡ j → ((t : Parts) → j ≡ judged.Basic t → ⊥) → entrySpan (entryOf s k) ≡ emptySpan
   unfolding entrySpan
   refused-empty j e n = rw (entry-refused s k j e n)
 
@@ -98,11 +99,11 @@ module _ (s : List ℕ) (k : ℕ) where
       go judged.OtherType e = refused-number judged.OtherType e (λ t i. never (cc i))
 
   -- then the part is empty
-  pub entry-nothing : (refusalOf (judgedOf s) .number ≡ 0 → ⊥) → entrySpan (entryOf s k) ≡ empty
+  pub entry-nothing : (refusalOf (judgedOf s) .number ≡ 0 → ⊥) → entrySpan (entryOf s k) ≡ emptySpan
   unfolding refusalOf
   entry-nothing z = go (judgedOf s) refl z
     where
-      go : (j : Judged) → judgedOf s ≡ j → (refusalOf j .number ≡ 0 → ⊥) → entrySpan (entryOf s k) ≡ empty
+      go : (j : Judged) → judgedOf s ≡ j → (refusalOf j .number ≡ 0 → ⊥) → entrySpan (entryOf s k) ≡ emptySpan
       go (judged.Basic t) e z = absurd (z refl)
       go judged.TooLong e z = refused-empty judged.TooLong e (λ t i. never (cc i))
       go (judged.Unfit p) e z = refused-empty (judged.Unfit p) e (λ t i. never (cc i))
@@ -114,7 +115,7 @@ module _ (s : List ℕ) (k : ℕ) where
   unfolding refusalOf
   entry-inside o = go (judgedOf s) refl
     where
-      nothing : entrySpan (entryOf s k) ≡ empty → entrySpan (entryOf s k) .start + entrySpan (entryOf s k) .len ≤ length s
+      nothing : entrySpan (entryOf s k) ≡ emptySpan → entrySpan (entryOf s k) .start + entrySpan (entryOf s k) .len ≤ length s
       nothing i = rw i (omega arith)
 
       go : (j : Judged) → judgedOf s ≡ j → entrySpan (entryOf s k) .start + entrySpan (entryOf s k) .len ≤ length s

@@ -17,7 +17,7 @@ use Rattle.freshness.specs.declared.Freshness.{Freshness}
 use Rattle.freshness.specs.declared.Freshness.the-variants.{Fresh, Endless, Reversed, Early, Late}
 use Rattle.freshness.specs.Clock.{clockOk}
 use Rattle.freshness.specs.declared.Next.the-variants.{At as NextAt}
-use Rattle.freshness.specs.Fresh.{freshOf, refusalOf}
+use Rattle.freshness.specs.Fresh.{freshOf, freshRefusal}
 use Rattle.cache_room.specs.Room.{heldAt}
 use Rattle.cache_room.specs.PartsLaws.{parts-wide, wide-at}
 use Rattle.cache_rules.specs.Place.{width, places, slipSize, kindAt, slipIn, cardAt, saysAt}
@@ -26,19 +26,19 @@ use Rattle.cache_rules.specs.CacheLaws.{cache-exactly, room-length}
 use Rattle.cache_place.specs.Times.{thisAt, nextAt}
 use Rattle.cache_places.specs.Evenly.{evenly}
 use Rattle.cache_places.specs.EvenlyLaws.{even-room}
-use Rattle.cache_ask.specs.declared.Found.the-variants.{At, NotHeld, Refused}
-use Rattle.cache_ask.specs.Found.{cardFits, missesAt, foundIn, foundOf, toldIn}
+use Rattle.cache_ask.specs.declared.Sought.the-variants.{At, NotHeld, Refused}
+use Rattle.cache_ask.specs.Found.{cardInRange, missesAt, foundIn, askFound, toldIn}
 use Rattle.desk_c.specs.Caches.{Placed}
 
 -- a place that is found: the buffer is a cache, time, tolerance and card are in range, and the card is held there
 pub record HeldHere (k : Clock) (c s : List ℕ) (i : ℕ) : Type 0 where
   pub cache : isCache s ≡ true
   pub clock : clockOk k ≡ true
-  pub card : cardFits c ≡ true
+  pub card : cardInRange c ≡ true
   pub held : heldAt cardAt c (evenly s) ≡ i
   pub inside : i < places
 
-missed-range : (f : Freshness) → refusalOf f < 256
+missed-range : (f : Freshness) → freshRefusal f < 256
 missed-range Fresh = omega arith
 missed-range Endless = omega arith
 missed-range (Reversed n) = omega arith
@@ -58,11 +58,11 @@ module _ (clock : Clock) (c s : List ℕ) where
       go false q true e = (cc e, leb-false 64 i q)
       go false q false e = let z : _≡_ {A = ℕ} 0 1 = cc e in absurd (omega arith)
 
-  pub find-held : (i : ℕ) → foundOf clock c s ≡ At i → HeldHere clock c s i
-  unfolding foundOf
-  find-held i = go (isCache s) (clockOk clock) (cardFits c) refl refl refl
+  pub find-held : (i : ℕ) → askFound clock c s ≡ At i → HeldHere clock c s i
+  unfolding askFound
+  find-held i = go (isCache s) (clockOk clock) (cardInRange c) refl refl refl
     where
-      go : (x y z : Bool) → isCache s ≡ x → clockOk clock ≡ y → cardFits c ≡ z
+      go : (x y z : Bool) → isCache s ≡ x → clockOk clock ≡ y → cardInRange c ≡ z
           → cond x (cond y (cond z (foundIn clock s (heldAt cardAt c (evenly s))) (Refused 1)) (Refused 1)) (Refused 19) ≡ At i
           → HeldHere clock c s i
       go true true true p q r e =
@@ -73,10 +73,10 @@ module _ (clock : Clock) (c s : List ℕ) where
       go false y z p q r e = let z : _≡_ {A = ℕ} 0 1 = cc e in absurd (omega arith)
 
   -- it is one of the 64
-  pub find-inside : Placed (foundOf clock c s)
+  pub find-inside : Placed (askFound clock c s)
   find-inside i e = find-held i e .inside
 
-  module _ (i : ℕ) (e : foundOf clock c s ≡ At i) where
+  module _ (i : ℕ) (e : askFound clock c s ≡ At i) where
     abbrev here : HeldHere clock c s i
     here = find-held i e
 
@@ -124,9 +124,9 @@ module _ (clock : Clock) (c s : List ℕ) where
           (λ z. eqb-false (missesAt clock (getD (evenly s) i [])) 0 q (m ∙ z), omega (arith, m, misses-range (getD (evenly s) i [])))
 
   -- its number is neither 0 nor 256
-  pub find-number : (n : ℕ) → foundOf clock c s ≡ Refused n → (n ≡ 0 → ⊥) × (n < 256)
-  unfolding foundOf
-  find-number n = go (isCache s) (clockOk clock) (cardFits c)
+  pub find-number : (n : ℕ) → askFound clock c s ≡ Refused n → (n ≡ 0 → ⊥) × (n < 256)
+  unfolding askFound
+  find-number n = go (isCache s) (clockOk clock) (cardInRange c)
     where
       small : (m : ℕ) → (m ≡ 0 → ⊥) → m < 256 → Refused m ≡ Refused n → (n ≡ 0 → ⊥) × (n < 256)
       small m a b e = let q : m ≡ n = cc e in (λ z. a (q ∙ z), omega (arith, q))
@@ -140,8 +140,8 @@ module _ (clock : Clock) (c s : List ℕ) where
       go false y z e = small 19 (λ z. omega arith) (omega arith) e
 
   -- octets of another number are no card
-  pub find-short : (length c ≡ 61 → ⊥) → foundOf clock c s ≡ cond (isCache s) (Refused 1) (Refused 19)
-  unfolding foundOf cardFits
+  pub find-short : (length c ≡ 61 → ⊥) → askFound clock c s ≡ cond (isCache s) (Refused 1) (Refused 19)
+  unfolding askFound cardInRange
   find-short h = rw (ne-eqb (length c) 61 h) (go (isCache s) (clockOk clock))
     where
       go : (x y : Bool) → cond x (cond y (Refused 1) (Refused 1)) (Refused 19) ≡ cond x (Refused 1) (Refused 19)

@@ -1,4 +1,5 @@
 pub mod Places
+pub mod HeldLaws
 pub mod PlacesLaws
 pub mod EntryLaws
 pub mod Papers

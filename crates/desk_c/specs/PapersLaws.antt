@@ -26,7 +26,7 @@ use Rattle.slip.specs.Rules.{verdictOk}
 use Rattle.slip.specs.RulesLaws.{refused-broken}
 use Rattle.slip.specs.Slip.{slipOf, slipOk, verdictIn, cardUnder, parsedAs, parsed, readOf, Hashed, Sized}
 use Rattle.slip.specs.SlipLaws.{slip-parts, written-read, read-written}
-use Rattle.question.specs.SizeLaws.{card-sized}
+use Rattle.desk_question.specs.SizeLaws.{card-sized}
 use Rattle.desk_c.specs.Papers.{slipNumber, sizeOr0, requestSize, requestIn}
 
 -- ── slips ──

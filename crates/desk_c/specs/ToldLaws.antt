@@ -18,7 +18,7 @@ use Rattle.answer.specs.Card.{cardOk}
 use Rattle.fields.specs.Field.{cardIn}
 use Rattle.slip.specs.Slip.{cardOctets, slipOf}
 use Rattle.slip.specs.CardOctetsLaws.{card-written}
-use Rattle.question.specs.SizeLaws.{card-sized}
+use Rattle.desk_question.specs.SizeLaws.{card-sized}
 use Rattle.cache_room.specs.Room.{heldAt}
 use Rattle.cache_room.specs.FirstLaws.{held-card}
 use Rattle.cache_rules.specs.Place.{slipSize, kindAt, slipIn, cardAt, saysAt, isSaid}
@@ -30,39 +30,39 @@ use Rattle.cache_rules.specs.HeldLaws.{here-said}
 use Rattle.cache_rules.specs.Has.{Has}
 use Rattle.cache_rules.specs.AskTheorem.{slip-stands}
 use Rattle.cache_places.specs.Evenly.{evenly}
-use Rattle.cache_ask.specs.declared.Found.the-variants.{At}
-use Rattle.cache_ask.specs.Found.{cardFits, cardForm, foundOf, toldIn}
+use Rattle.cache_ask.specs.declared.Sought.the-variants.{At}
+use Rattle.cache_ask.specs.Found.{cardInRange, cardOrZeros, askFound, toldIn}
 use Rattle.cache_ask.specs.FoundLaws.{found-told}
 use Rattle.desk_c.specs.FindLaws.{HeldHere, find-held, find-places, find-wide}
 
 module _ (clock : Clock) (c s : List ℕ) where
   module _ (o : Octets s) (p : Octets c) (l : length c ≡ 61) where
-    fits-card : cardFits c ≡ cardOk (cardIn 20 c)
-    unfolding cardFits
+    fits-card : cardInRange c ≡ cardOk (cardIn 20 c)
+    unfolding cardInRange
     fits-card = rw (eq-eqb (length c) 61 l)
 
     own-octets : cardOctets (cardIn 20 c) ≡ c
     own-octets = card-written 20 c p (omega (arith, l)) ∙ take-all 61 c (omega (arith, l))
 
-    own-form : cardOk (cardIn 20 c) ≡ true → cardForm (cardIn 20 c) ≡ c
-    unfolding cardForm
+    own-form : cardOk (cardIn 20 c) ≡ true → cardOrZeros (cardIn 20 c) ≡ c
+    unfolding cardOrZeros
     own-form r = rw r own-octets
 
     -- what is told of it is what asking for the card of these octets gives
-    pub find-told : toldIn s (foundOf clock c s) ≡ askOf clock (cardIn 20 c) s
-    unfolding foundOf toldIn
+    pub find-told : toldIn s (askFound clock c s) ≡ askOf clock (cardIn 20 c) s
+    unfolding askFound toldIn
     find-told = go (isCache s) (clockOk clock) (cardOk (cardIn 20 c)) refl refl refl
       where
         go : (x y z : Bool) → isCache s ≡ x → clockOk clock ≡ y → cardOk (cardIn 20 c) ≡ z
-            → toldIn s (foundOf clock c s) ≡ askOf clock (cardIn 20 c) s
+            → toldIn s (askFound clock c s) ≡ askOf clock (cardIn 20 c) s
         go false y z a b r = rw a (sym (ask-19 clock (cardIn 20 c) s a))
         go true false z a b r = rw (a, b) (sym (ask-clock clock (cardIn 20 c) s a b))
         go true true false a b r = rw (a, b, fits-card, r) (sym (ask-card clock (cardIn 20 c) s a b r))
         go true true true a b r =
-            ap (λ (x : List ℕ). toldIn s (foundOf clock x s)) (sym (own-form r)) ∙ found-told clock s o (cardIn 20 c) (card-sized 20 c)
+            ap (λ (x : List ℕ). toldIn s (askFound clock x s)) (sym (own-form r)) ∙ found-told clock s o (cardIn 20 c) (card-sized 20 c)
 
     -- a place that is found has the card: it says something, and its slip stands there
-    module _ (i : ℕ) (e : foundOf clock c s ≡ At i) where
+    module _ (i : ℕ) (e : askFound clock c s ≡ At i) where
       abbrev held : HeldHere clock c s i
       held = find-held clock c s i e
 

@@ -1,13 +1,13 @@
 // The room's cache: filing a slip, and asking for a card.
-use cache_ask::Found;
+use cache_ask::Sought;
 use cache_rules::Filed;
 use freshness::Clock;
-use response::Span;
+use read_response::Span;
 ghost use Prim.Native.Nat.{_<_};
 ghost use mathlib.Core.Path.{_≡_};
 ghost use Rattle.cache_rules.specs.Cache.{filedOf, bufferOf};
 ghost use Rattle.cache_rules.specs.Numbers.{filedNumber, filedCount};
-ghost use Rattle.cache_ask.specs.Found.{foundOf};
+ghost use Rattle.cache_ask.specs.Found.{askFound};
 ghost use Rattle.desk_c.specs.Caches.{clockAt, Placed, foundNumber, slipSpan, foundSpan};
 
 // The number of a filing's refusal, 0 where there is none.
@@ -54,13 +54,13 @@ pub extern "C" fn desk_cache_file(
 }
 
 // The number of what is found of a card.
-fn found_number(found: Found) -> usize
+fn found_number(found: Sought) -> usize
     ensures { λ r. ⌜ r ≡ foundNumber found ⌝ }
 {
     match found {
-        Found::At(_) => 0,
-        Found::NotHeld => 256,
-        Found::Refused(number) => number as usize,
+        Sought::At(_) => 0,
+        Sought::NotHeld => 256,
+        Sought::Refused(number) => number as usize,
     }
 }
 
@@ -78,14 +78,14 @@ fn slip_span(cache: &[u8], place: usize) -> Span
 }
 
 // Where the slip that is found is.
-fn found_span(cache: &[u8], found: Found) -> Span
+fn found_span(cache: &[u8], found: Sought) -> Span
     requires { ⌜ Placed found ⌝ }
     ensures { λ r. ⌜ r ≡ foundSpan (now (cache .entry)) found ⌝ }
 {
     match found {
-        Found::At(place) => slip_span(cache, place),
-        Found::NotHeld => Span { start: 0, len: 0 },
-        Found::Refused(_) => Span { start: 0, len: 0 },
+        Sought::At(place) => slip_span(cache, place),
+        Sought::NotHeld => Span { start: 0, len: 0 },
+        Sought::Refused(_) => Span { start: 0, len: 0 },
     }
 }
 
@@ -100,9 +100,9 @@ pub extern "C" fn desk_cache_ask(
     from: &mut usize,
     len: &mut usize,
 ) -> usize
-    ensures { λ r. ⌜ r ≡ foundNumber (foundOf (clockAt time tolerance) (now (card .entry)) (now (cache .entry))) ⌝ }
-    ensures { λ _. ⌜ now (from .exit) ≡ foundSpan (now (cache .entry)) (foundOf (clockAt time tolerance) (now (card .entry)) (now (cache .entry))) .start ⌝ }
-    ensures { λ _. ⌜ now (len .exit) ≡ foundSpan (now (cache .entry)) (foundOf (clockAt time tolerance) (now (card .entry)) (now (cache .entry))) .len ⌝ }
+    ensures { λ r. ⌜ r ≡ foundNumber (askFound (clockAt time tolerance) (now (card .entry)) (now (cache .entry))) ⌝ }
+    ensures { λ _. ⌜ now (from .exit) ≡ foundSpan (now (cache .entry)) (askFound (clockAt time tolerance) (now (card .entry)) (now (cache .entry))) .start ⌝ }
+    ensures { λ _. ⌜ now (len .exit) ≡ foundSpan (now (cache .entry)) (askFound (clockAt time tolerance) (now (card .entry)) (now (cache .entry))) .len ⌝ }
 {
     let clock = Clock {
         now: time,

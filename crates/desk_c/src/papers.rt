@@ -2,23 +2,21 @@
 use answer::Verdict;
 use fields::Output;
 ghost use mathlib.Core.Path.{_≡_};
-ghost use mathlib.Core.Bool.{cond};
-ghost use lib.Dec.{ltb};
 ghost use lib.ListN.{length};
-ghost use Rattle.octets.specs.Buffer.{putIn};
+ghost use Rattle.octets.specs.Buffer.{putIn, putSize};
 ghost use Rattle.slip.specs.Slip.{slipOf, readOf};
-ghost use Rattle.question.specs.Asked.{asked};
+ghost use Rattle.desk_question.specs.Asked.{asked};
 ghost use Rattle.desk_c.specs.Papers.{slipNumber, sizeOr0, requestSize, requestIn};
 
 // Writes the slip of the answer to a question of 353 octets: its length, or 0 where the buffer is too
 // short. Reading that slip gives back the answer.
 #[no_mangle]
 pub extern "C" fn desk_check(question: &[u8], response: &[u8], slip: &mut [u8]) -> usize
-    ensures { λ r. ⌜ r ≡ cond (ltb (length (now (slip .entry))) (length (slipOf (asked (now (question .entry)) (now (response .entry)))))) 0 (length (slipOf (asked (now (question .entry)) (now (response .entry))))) ⌝ }
+    ensures { λ r. ⌜ r ≡ putSize (now (slip .entry)) (slipOf (asked (now (question .entry)) (now (response .entry)))) ⌝ }
     ensures { λ _. ⌜ now (slip .exit) ≡ putIn (now (slip .entry)) 0 (slipOf (asked (now (question .entry)) (now (response .entry)))) ⌝ }
     ensures { λ _. ⌜ readOf 20 (slipOf (asked (now (question .entry)) (now (response .entry)))) ≡ asked (now (question .entry)) (now (response .entry)) ⌝ }
 {
-    deskcase::slip_for(question, response, slip)
+    desk_case::slip_for(question, response, slip)
 }
 
 // Whether octets are a slip: 0, or 17 where they break the slip rules.

@@ -1,16 +1,15 @@
 // A response's refusal, and its parts: where they are in the caller's own octets.
 use element::Header;
-use response::Judged;
-use response::Parts;
-use response::Span;
+use read_response::Judged;
+use read_response::Span;
 use show::Entry;
 ghost use Prim.Native.Nat.{_+_, _≤_};
 ghost use mathlib.Core.Path.{_≡_};
 ghost use lib.ListN.{length};
-ghost use Rattle.response.specs.Parts.{judgedOf};
-ghost use Rattle.response.specs.Refusals.{refusalOf};
+ghost use Rattle.read_response.specs.Parts.{judgedOf};
+ghost use Rattle.read_response.specs.Refusals.{refusalOf};
 ghost use Rattle.show.specs.Shown.{entryOf};
-ghost use Rattle.desk_c.specs.Places.{noParts, partsOf, signedIn, algorithmIn, signatureIn, behindOf, heldIn, certificatesIn, entryNumber, entrySpan};
+ghost use Rattle.desk_c.specs.Places.{signedSpan, algorithmIn, signatureSpan, behindHeader, heldIn, certificatesIn, entryNumber, entrySpan};
 
 // The refusal of a response before any question is asked: 0 or 2 to 5, and the status that goes with 4.
 #[no_mangle]
@@ -18,39 +17,9 @@ pub extern "C" fn desk_refusal(response: &[u8], status: &mut usize) -> usize
     ensures { λ r. ⌜ r ≡ refusalOf (judgedOf (now (response .entry))) .number ⌝ }
     ensures { λ _. ⌜ now (status .exit) ≡ refusalOf (judgedOf (now (response .entry))) .status ⌝ }
 {
-    let refusal = response::refuse(response);
+    let refusal = read_response::refuse(response);
     *status = refusal.status as usize;
     refusal.number as usize
-}
-
-// The parts of what has none: each is empty.
-fn no_parts() -> Parts
-    ensures { λ r. ⌜ r ≡ noParts ⌝ }
-{
-    let empty = Span { start: 0, len: 0 };
-    Parts {
-        signed: empty,
-        responder: empty,
-        entries: empty,
-        count: 0,
-        extensions: empty,
-        algorithm: empty,
-        signature: empty,
-        certificates: empty,
-    }
-}
-
-// The parts of a response, by what it is; all empty where it is refused.
-fn parts_of(judged: Judged) -> Parts
-    ensures { λ r. ⌜ r ≡ partsOf judged ⌝ }
-{
-    match judged {
-        Judged::Basic(parts) => parts,
-        Judged::TooLong => no_parts(),
-        Judged::Unfit(_) => no_parts(),
-        Judged::Failed(_) => no_parts(),
-        Judged::OtherType => no_parts(),
-    }
 }
 
 // Tells where a part is, and the refusal of what the response is, 0 where there is none.
@@ -61,7 +30,7 @@ fn tell(judged: Judged, span: Span, from: &mut usize, len: &mut usize) -> usize
 {
     *from = span.start;
     *len = span.len;
-    let said = response::refusal_of(judged);
+    let said = read_response::refusal_of(judged);
     said.number as usize
 }
 
@@ -69,11 +38,11 @@ fn tell(judged: Judged, span: Span, from: &mut usize, len: &mut usize) -> usize
 #[no_mangle]
 pub extern "C" fn desk_signed(response: &[u8], from: &mut usize, len: &mut usize) -> usize
     ensures { λ r. ⌜ r ≡ refusalOf (judgedOf (now (response .entry))) .number ⌝ }
-    ensures { λ _. ⌜ now (from .exit) ≡ signedIn (judgedOf (now (response .entry))) .start ⌝ }
-    ensures { λ _. ⌜ now (len .exit) ≡ signedIn (judgedOf (now (response .entry))) .len ⌝ }
+    ensures { λ _. ⌜ now (from .exit) ≡ signedSpan (judgedOf (now (response .entry))) .start ⌝ }
+    ensures { λ _. ⌜ now (len .exit) ≡ signedSpan (judgedOf (now (response .entry))) .len ⌝ }
 {
-    let judged = response::judge(response);
-    let parts = parts_of(judged);
+    let judged = read_response::judge(response);
+    let parts = show::parts_of(judged);
     tell(judged, parts.signed, from, len)
 }
 
@@ -84,8 +53,8 @@ pub extern "C" fn desk_algorithm(response: &[u8], from: &mut usize, len: &mut us
     ensures { λ _. ⌜ now (from .exit) ≡ algorithmIn (judgedOf (now (response .entry))) .start ⌝ }
     ensures { λ _. ⌜ now (len .exit) ≡ algorithmIn (judgedOf (now (response .entry))) .len ⌝ }
 {
-    let judged = response::judge(response);
-    let parts = parts_of(judged);
+    let judged = read_response::judge(response);
+    let parts = show::parts_of(judged);
     tell(judged, parts.algorithm, from, len)
 }
 
@@ -93,17 +62,17 @@ pub extern "C" fn desk_algorithm(response: &[u8], from: &mut usize, len: &mut us
 #[no_mangle]
 pub extern "C" fn desk_signature(response: &[u8], from: &mut usize, len: &mut usize) -> usize
     ensures { λ r. ⌜ r ≡ refusalOf (judgedOf (now (response .entry))) .number ⌝ }
-    ensures { λ _. ⌜ now (from .exit) ≡ signatureIn (judgedOf (now (response .entry))) .start ⌝ }
-    ensures { λ _. ⌜ now (len .exit) ≡ signatureIn (judgedOf (now (response .entry))) .len ⌝ }
+    ensures { λ _. ⌜ now (from .exit) ≡ signatureSpan (judgedOf (now (response .entry))) .start ⌝ }
+    ensures { λ _. ⌜ now (len .exit) ≡ signatureSpan (judgedOf (now (response .entry))) .len ⌝ }
 {
-    let judged = response::judge(response);
-    let parts = parts_of(judged);
+    let judged = read_response::judge(response);
+    let parts = show::parts_of(judged);
     tell(judged, parts.signature, from, len)
 }
 
 // What stands behind the header at the head of s; all of s where there is no header.
 fn behind<'a>(s: &'a [u8]) -> &'a [u8]
-    ensures { λ r. ⌜ now r ≡ behindOf (now (s .entry)) ⌝ }
+    ensures { λ r. ⌜ now r ≡ behindHeader (now (s .entry)) ⌝ }
 {
     let header = element::read_header(s);
     match header {
@@ -139,8 +108,8 @@ pub extern "C" fn desk_certificates(response: &[u8], from: &mut usize, len: &mut
     ensures { λ _. ⌜ now (from .exit) ≡ certificatesIn (now (response .entry)) (judgedOf (now (response .entry))) .start ⌝ }
     ensures { λ _. ⌜ now (len .exit) ≡ certificatesIn (now (response .entry)) (judgedOf (now (response .entry))) .len ⌝ }
 {
-    let judged = response::judge(response);
-    let parts = parts_of(judged);
+    let judged = read_response::judge(response);
+    let parts = show::parts_of(judged);
     let span = held_in(response, parts.certificates);
     tell(judged, span, from, len)
 }

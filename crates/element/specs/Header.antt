@@ -1,12 +1,12 @@
 -- What stands at the head of a list of octets: an element's tag, the size of its header and the
 -- size of its content; or the place that is refused, counted from the head.
--- insideOf, longOf, lengthAt, headerOf. Their laws are in HeaderLaws.
+-- insideOf, longOf, lengthAt, headerOf; isShort. Their laws are in HeaderLaws and ShortLaws.
 -- The octets count as they are met: a wrong one refuses the tag's own place, 0; a missing one the
 -- end of the list.
 -- Assumes nothing.
 use Prim.Native.Nat.{ℕ, _+_, _-_}
 use mathlib.Core.List.{List}
-use mathlib.Core.Bool.{Bool, true, false, cond}
+use mathlib.Core.Bool.{Bool, true, false, cond, _&&_}
 use lib.Dec.{ltb, leb, eqb}
 use lib.ListN.{length, getD, take, drop}
 use Rattle.octets.specs.Number.{valueOf}
@@ -41,3 +41,7 @@ headerOf s =
     (cond (tagOk (getD s 0 0))
     (cond (ltb (length s) 2) (Refused (length s)) (lengthAt s (getD s 0 0) (getD s 1 0)))
     (Refused 0))
+
+-- a header of two octets: there are two, the second is a length, the element ends inside the list, and the tag fits
+unfoldable pub isShort : List ℕ → Bool
+isShort s = leb 2 (length s) && (leb (getD s 1 0) 127 && (leb (getD s 1 0) (length s - 2) && tagOk (getD s 0 0)))

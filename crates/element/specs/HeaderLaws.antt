@@ -1,6 +1,6 @@
 -- Laws of the header at the head of a list: what is found is there in its one form, each form is
 -- found, and a refused place lies in the list or at its end.
--- Heads, header-sound, header-complete, header-inside, header-tag, header-within, header-empty.
+-- Heads, header-sound, header-two, header-one, header-complete, header-inside, header-tag, header-within, header-empty.
 -- The definitions are in Header and Form. Assumes nothing.
 use Prim.Native.Nat.{ℕ, suc, _+_, _-_, _^_, _≤_, _<_}
 use native.Mathlib.Nat.{pow-le-pow-right}
@@ -20,7 +20,7 @@ use Rattle.element.specs.Tag.{tagOk}
 use Rattle.element.specs.Length.{lengthCount, lengthForm, shortest}
 use Rattle.element.specs.LengthLaws.{count-least, length-short, length-long, shortest-yes, shortest-is}
 use Rattle.element.specs.Header.{insideOf, longOf, lengthAt, headerOf}
-use Rattle.element.specs.HeaderFound.{first-two, Lengths, one, more, Seen, seen, near-cond, near-at, near-inside}
+use Rattle.element.specs.HeaderFoundLaws.{first-two, Lengths, one, more, Seen, seen, near-cond, near-at, near-inside}
 use Rattle.element.specs.Form.{headForm, headSize}
 use Rattle.element.specs.declared.Header.the-variants.{Found, Refused}
 
@@ -52,19 +52,22 @@ module _ (s : List ℕ) (o : Octets s) (t h n : ℕ) (v : Seen s t h n) where
   starts : s ≡ t ∷ getD s 1 0 ∷ drop 2 s
   starts = first-two s (v .two) ∙ ap (λ (x : ℕ). x ∷ getD s 1 0 ∷ drop 2 s) (v .first)
 
-  -- the content's size in one octet
-  sound-one : getD s 1 0 < 128 → h ≡ 2 → n ≡ getD s 1 0 → Heads s t h n
+  -- by the octets of the content's size: the second and those after it
+  heads-by : (c : List ℕ) → n < 2 ^ 64 → lengthForm n ≡ getD s 1 0 ∷ c → h ≡ 2 + length c → drop 2 s ≡ c ++ drop h s → Heads s t h n
   unfolding headSize
-  sound-one b eh en =
-      let f : lengthForm n ≡ n ∷ [] = length-short n (omega arith) in
+  heads-by c small f eh ed =
       record {
         tag = v .tag;
         octet = octet-is;
-        small = omega arith;
-        size = rw f eh;
+        small = small;
+        size = rw f (omega arith);
         whole = v .whole;
-        same = rw (f, eh, en) starts;
+        same = rw f (starts ∙ ap (λ (r : List ℕ). t ∷ getD s 1 0 ∷ r) ed);
       }
+
+  -- the content's size in one octet
+  sound-one : getD s 1 0 < 128 → h ≡ 2 → n ≡ getD s 1 0 → Heads s t h n
+  sound-one b eh en = heads-by [] (omega arith) (rw en (length-short (getD s 1 0) b)) eh (rw eh)
 
   -- the content's size in k octets after the first
   module _ (k : ℕ) (eb : getD s 1 0 ≡ 128 + k) (le : k ≤ 8) (q : shortest k n ≡ true) (eh : h ≡ 2 + k) (en : n ≡ valueOf (take k (drop 2 s))) where
@@ -76,25 +79,17 @@ module _ (s : List ℕ) (o : Octets s) (t h n : ℕ) (v : Seen s t h n) where
         let e = octets-value (take k (drop 2 s)) (octets-take k (drop 2 s) (octets-drop 2 s o)) in
         rw en (rw there at e)
 
-    long-is : lengthForm n ≡ (128 + k) ∷ take k (drop 2 s)
-    long-is = let z = shortest-is k n q in length-long n (z .0) ∙ rw (z .1, digits)
+    long-is : lengthForm n ≡ getD s 1 0 ∷ take k (drop 2 s)
+    long-is = let z = shortest-is k n q in length-long n (z .0) ∙ rw (z .1, digits, eb)
 
     sound-more : Heads s t h n
-    unfolding headSize
     sound-more =
         let b = value-bound (take k (drop 2 s)) (octets-take k (drop 2 s) (octets-drop 2 s o)) in
         let c : n < 256 ^ k = rw en (rw there at b) in
         let up : 256 ^ k ≤ 256 ^ 8 = pow-le-pow-right (lit< tt) le in
         let w : drop 2 s ≡ take k (drop 2 s) ++ drop (2 + k) s =
         sym (take-append-drop k (drop 2 s)) ∙ ap (λ (r : List ℕ). take k (drop 2 s) ++ r) (drop-drop k 2 s) in
-        record {
-          tag = v .tag;
-          octet = octet-is;
-          small = omega arith;
-          size = rw (long-is, there) (omega arith);
-          whole = v .whole;
-          same = rw (long-is, eh) (starts ∙ rw eb (ap (λ (r : List ℕ). t ∷ (128 + k) ∷ r) w));
-        }
+        heads-by (take k (drop 2 s)) (omega arith) long-is (omega (arith, there)) (rw eh w)
 
 pub header-sound : (s : List ℕ) (t h n : ℕ) → Octets s → headerOf s ≡ Found t h n → Heads s t h n
 header-sound s t h n o e = go (seen s t h n e .lengths)
@@ -103,15 +98,16 @@ header-sound s t h n o e = go (seen s t h n e .lengths)
     go (one b eh en) = sound-one s o t h n (seen s t h n e) b eh en
     go (more k b le q eh en) = sound-more s o t h n (seen s t h n e) k b le q eh en
 
+-- two octets or more that begin with a tag are read by their length octets
+pub header-two : (s : List ℕ) → 2 ≤ length s → (r : Bool) → r ≡ tagOk (getD s 0 0) → r ≡ true → headerOf s ≡ lengthAt s (getD s 0 0) (getD s 1 0)
+unfolding headerOf
+header-two s two r q k = rw (ne-eqb (length s) 0 (λ z. omega arith), ← q, k, le-ltb (length s) 2 two)
+
 -- each form is found
-complete-one : (t n : ℕ) (w : List ℕ) → tagOk t ≡ true → n < 128 → n ≤ length w → headerOf (t ∷ n ∷ w) ≡ Found t 2 n
-unfolding headerOf lengthAt insideOf
-complete-one t n w k lt le =
-    let z = ne-eqb (suc (suc (length w))) 0 (omega arith) in
-    let two = le-ltb (suc (suc (length w))) 2 (omega arith) in
-    let b = lt-ltb n 128 lt in
-    let i = le-leb n (suc (suc (length w)) - 2) (omega arith) in
-    simp (z, two, k, b, i)
+pub header-one : (s : List ℕ) → 2 ≤ length s → getD s 1 0 < 128 → getD s 1 0 ≤ length s - 2 → tagOk (getD s 0 0) ≡ true
+    → headerOf s ≡ Found (getD s 0 0) 2 (getD s 1 0)
+unfolding lengthAt insideOf
+header-one s two b i k = rw (header-two s two (tagOk (getD s 0 0)) refl k, lt-ltb (getD s 1 0) 128 b, le-leb (getD s 1 0) (length s - 2) i)
 
 module _ (t k : ℕ) (c w : List ℕ) (ok : tagOk t ≡ true) (size : length c ≡ k) (few : k ≤ 8) (some : 1 ≤ k)
     (short : shortest k (valueOf c) ≡ true) (le : valueOf c ≤ length w) where
@@ -124,15 +120,14 @@ module _ (t k : ℕ) (c w : List ℕ) (ok : tagOk t ≡ true) (size : length c �
       simp (take-at c w k size, a, short, i)
 
   complete-more : headerOf (t ∷ (128 + k) ∷ (c ++ w)) ≡ Found t (2 + k) (valueOf c)
-  unfolding headerOf lengthAt
+  unfolding lengthAt
   complete-more =
-      let z = ne-eqb (suc (suc (length (c ++ w)))) 0 (omega arith) in
-      let two = le-ltb (suc (suc (length (c ++ w)))) 2 (omega arith) in
+      let z = header-two (t ∷ (128 + k) ∷ (c ++ w)) (omega arith) (tagOk t) refl ok in
       let b = le-ltb (128 + k) 128 (omega arith) in
       let d = ne-eqb (128 + k) 128 (omega arith) in
       let f = le-ltb 136 (128 + k) (omega arith) in
       let g : 128 + k - 128 ≡ k = omega arith in
-      simp (z, two, ok, b, d, f, g, complete-long)
+      simp (z, b, d, f, g, complete-long)
 
 pub header-complete : (t n : ℕ) (w : List ℕ) → tagOk t ≡ true → n < 2 ^ 64 → n ≤ length w
     → headerOf (headForm t n ++ w) ≡ Found t (headSize n) n
@@ -140,7 +135,7 @@ unfolding headSize
 header-complete t n w ok f le = go (ltb n 128) refl
   where
     go : (b : Bool) → ltb n 128 ≡ b → headerOf (headForm t n ++ w) ≡ Found t (1 + length (lengthForm n)) n
-    go true e = let h = ltb-true n 128 e in rw (length-short n h) (complete-one t n w ok h le)
+    go true e = let h = ltb-true n 128 e in rw (length-short n h) (header-one (t ∷ n ∷ w) (omega arith) h (omega arith) ok)
     go false e =
         let h = ltb-false n 128 e in
         let c = count-least n (omega arith) f in

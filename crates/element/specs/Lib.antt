@@ -2,8 +2,9 @@ pub mod Tag
 pub mod Length
 pub mod LengthLaws
 pub mod Header
-pub mod HeaderFound
+pub mod HeaderFoundLaws
 pub mod Form
 pub mod FormLaws
 pub mod HeaderLaws
+pub mod ShortLaws
 pub mod Examples

@@ -3,10 +3,10 @@ use crate::Header;
 use crate::lengths;
 use crate::tags;
 ghost use mathlib.Core.Path.{_≡_};
-ghost use Prim.Native.Nat.{_≤_};
+ghost use Prim.Native.Nat.{_≤_, _<_};
 ghost use lib.ListN.{length, getD};
 ghost use Rattle.octets.specs.Number.{numberAt};
-ghost use Rattle.element.specs.Header.{insideOf, longOf, headerOf};
+ghost use Rattle.element.specs.Header.{insideOf, longOf, headerOf, isShort};
 
 // The element ends inside the size octets that hold it.
 fn inside(size: usize, tag: u8, start: usize, len: usize) -> Header
@@ -58,7 +58,7 @@ fn long_header(s: &[u8], tag: u8, k: usize) -> Header
 
 // A part of fewer than two octets holds no header.
 fn cut_header(s: &[u8]) -> Header
-    requires { ⌜ length (now s) ≤ 1 ⌝ }
+    requires { ⌜ length (now s) < 2 ⌝ }
     ensures { λ r. ⌜ r ≡ headerOf (now (s .entry)) ⌝ }
 {
     if s.len() == 0 {
@@ -93,4 +93,21 @@ pub fn read_header(s: &[u8]) -> Header
         return long_header(s, tag, (first - 128) as usize);
     }
     Header::Refused(0)
+}
+
+// Whether the head of s is a tag and a length of one octet, and the element ends inside s. Most are so,
+// and a caller that asks this first needs no more than a few comparisons.
+pub fn is_short(s: &[u8]) -> bool
+    ensures { λ r. ⌜ r ≡ isShort (now (s .entry)) ⌝ }
+{
+    if s.len() < 2 {
+        return false;
+    }
+    if 127 < s[1] {
+        return false;
+    }
+    if s.len() - 2 < s[1] as usize {
+        return false;
+    }
+    tags::tag_fits(s[0])
 }

@@ -7,6 +7,7 @@ mod lengths; // how many octets a length takes
 mod tags; // the tag octet
 mod writers; // the header written
 
+pub use heads::is_short;
 pub use heads::read_header;
 pub use lengths::length_count;
 pub use tags::tag_fits;

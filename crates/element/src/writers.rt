@@ -3,32 +3,21 @@ use crate::Formed;
 use crate::lengths;
 use crate::tags;
 ghost use mathlib.Core.Path.{_≡_};
-ghost use Prim.Native.Nat.{_<_, _≤_};
+ghost use mathlib.Core.List.{_∷_};
+ghost use Prim.Native.Nat.{_≤_};
 ghost use lib.ListN.{length};
 ghost use Rattle.octets.specs.Buffer.{putIn};
+ghost use Rattle.octets.specs.Number.{octetsOf};
+ghost use Rattle.element.specs.Length.{lengthForm};
 ghost use Rattle.element.specs.Form.{headForm, roomAnswer, headerIn, headerAnswer};
 
-// A header of two octets, for a content of fewer than 128.
-fn put_short(out: &mut [u8], at: usize, tag: u8, len: u8) -> Formed
-    requires { ⌜ len < 128 ⌝ }
+// A header whose length has k octets after the first.
+fn put_head(out: &mut [u8], at: usize, tag: u8, len: usize, first: u8, k: usize) -> Formed
+    requires { ⌜ k ≤ 8 ⌝ }
+    requires { ⌜ lengthForm len ≡ first ∷ octetsOf k len ⌝ }
     ensures { λ r. ⌜ r ≡ roomAnswer (length (now (out .entry))) at len ⌝ }
     ensures { λ _. ⌜ now (out .exit) ≡ putIn (now (out .entry)) at (headForm tag len) ⌝ }
 {
-    let head = [tag, len];
-    let w = octets::put(out, at, &head);
-    match w {
-        octets::Written::Next(next) => Formed::Next(next),
-        octets::Written::Short => Formed::Short,
-    }
-}
-
-// A header whose length takes k octets more.
-fn put_long(out: &mut [u8], at: usize, tag: u8, len: usize) -> Formed
-    requires { ⌜ 128 ≤ len ⌝ }
-    ensures { λ r. ⌜ r ≡ roomAnswer (length (now (out .entry))) at len ⌝ }
-    ensures { λ _. ⌜ now (out .exit) ≡ putIn (now (out .entry)) at (headForm tag len) ⌝ }
-{
-    let k = lengths::length_count(len as u64);
     let size = 2 + k;
     if out.len() < at {
         return Formed::Short;
@@ -36,7 +25,7 @@ fn put_long(out: &mut [u8], at: usize, tag: u8, len: usize) -> Formed
     if out.len() - at < size {
         return Formed::Short;
     }
-    let head = [tag, 0x80 | k as u8];
+    let head = [tag, first];
     octets::put(out, at, &head);
     octets::put_number(out, at + 2, k, len as u64);
     Formed::Next(at + size)
@@ -50,9 +39,10 @@ pub fn put_header(out: &mut [u8], at: usize, tag: u8, len: usize) -> Formed
 {
     if tags::tag_fits(tag) {
         if len < 128 {
-            return put_short(out, at, tag, len as u8);
+            return put_head(out, at, tag, len, len as u8, 0);
         }
-        return put_long(out, at, tag, len);
+        let k = lengths::length_count(len as u64);
+        return put_head(out, at, tag, len, 0x80 | k as u8, k);
     }
     Formed::NoTag
 }

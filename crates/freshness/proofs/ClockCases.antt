@@ -5,16 +5,17 @@ use Prim.Native.Nat.{_<_, _≤_}
 use mathlib.Core.Path.{_≡_, sym}
 use mathlib.Core.Bool.{false}
 use borrow.Author.Tests.{le-leb, lt-leb}
+use Rattle.calendar.specs.Time.{lastSecond}
 use Rattle.freshness.specs.declared.Clock.{Clock}
 use Rattle.freshness.specs.Clock.{toleranceOk, clockOk}
 
 module _ (clock : Clock) where
   -- the time is out of range
-  pub clock-now : 253402300799 < clock .now → false ≡ clockOk clock
+  pub clock-now : lastSecond < clock .now → false ≡ clockOk clock
   unfolding clockOk
-  clock-now h = sym (rw (lt-leb (clock .now) 253402300799 h))
+  clock-now h = sym (rw (lt-leb (clock .now) lastSecond h))
 
   -- it is in range: the tolerance decides
-  pub clock-tolerance : clock .now ≤ 253402300799 → toleranceOk (clock .tolerance) ≡ clockOk clock
+  pub clock-tolerance : clock .now ≤ lastSecond → toleranceOk (clock .tolerance) ≡ clockOk clock
   unfolding clockOk
-  clock-tolerance h = sym (rw (le-leb (clock .now) 253402300799 h))
+  clock-tolerance h = sym (rw (le-leb (clock .now) lastSecond h))

@@ -4,11 +4,12 @@
 use Prim.Native.Nat.{ℕ}
 use mathlib.Core.Bool.{Bool, false, cond}
 use lib.Dec.{leb}
+use Rattle.calendar.specs.Time.{lastSecond}
 use Rattle.freshness.specs.declared.Clock.{Clock}
 
 -- a time is at most 9999-12-31 23:59:59
 abbrev pub nowOk : ℕ → Bool
-nowOk now = leb now 253402300799
+nowOk now = leb now lastSecond
 
 -- a tolerance is an hour at most
 abbrev pub toleranceOk : ℕ → Bool

@@ -3,7 +3,7 @@
 use mathlib.Core.Path.{_≡_, refl}
 use Rattle.freshness.specs.declared.Next.the-variants.{At, Absent}
 use Rattle.freshness.specs.declared.Freshness.the-variants.{Fresh, Reversed, Early, Late}
-use Rattle.freshness.specs.Fresh.{freshOf, refusalOf}
+use Rattle.freshness.specs.Fresh.{freshOf, freshRefusal}
 
 -- M11: with tolerance 0 now 1,115,082,000 passes
 m11-passes : freshOf 1114909200 (At 1115082000) 1115082000 0 ≡ Fresh
@@ -15,7 +15,7 @@ m11-late : freshOf 1114909200 (At 1115082000) 1115082001 0 ≡ Late 1
 unfolding freshOf
 m11-late = refl
 
-m11-refused : refusalOf (freshOf 1114909200 (At 1115082000) 1115082001 0) ≡ 16
+m11-refused : freshRefusal (freshOf 1114909200 (At 1115082000) 1115082001 0) ≡ 16
 unfolding freshOf
 m11-refused = refl
 
@@ -44,6 +44,6 @@ unfolding freshOf
 one-second = refl
 
 -- no nextUpdate gives 13, whatever else is wrong
-no-end : refusalOf (freshOf 1114909200 Absent 1114909199 0) ≡ 13
+no-end : freshRefusal (freshOf 1114909200 Absent 1114909199 0) ≡ 13
 unfolding freshOf
 no-end = refl

@@ -1,5 +1,5 @@
 -- Whether an answer counts at a time (document 01, refusals 13 to 16).
--- freshOf, refusalOf. That it counts exactly from thisUpdate to nextUpdate plus tolerance is in
+-- freshOf, freshRefusal. That it counts exactly from thisUpdate to nextUpdate plus tolerance is in
 -- FreshLaws.
 -- Assumes nothing.
 use Prim.Native.Nat.{ℕ, _+_, _-_}
@@ -20,9 +20,9 @@ freshOf this (At next) now tolerance =
     (cond (ltb (next + tolerance) now) (Late (now - (next + tolerance))) Fresh))
 
 -- the number of the refusal, 0 where there is none
-abbrev pub refusalOf : Freshness → ℕ
-refusalOf Fresh = 0
-refusalOf Endless = 13
-refusalOf (Reversed n) = 14
-refusalOf (Early n) = 15
-refusalOf (Late n) = 16
+abbrev pub freshRefusal : Freshness → ℕ
+freshRefusal Fresh = 0
+freshRefusal Endless = 13
+freshRefusal (Reversed n) = 14
+freshRefusal (Early n) = 15
+freshRefusal (Late n) = 16

@@ -1,6 +1,6 @@
 -- Laws of freshness: an answer counts exactly from thisUpdate to nextUpdate plus tolerance, and each refusal is
 -- given exactly when its sentence applies and no earlier one does.
--- fresh-reversed, fresh-early, fresh-late, fresh-within; fresh-exactly, fresh-ends; refusal-13, refusal-14, refusal-15,
+-- fresh-reversed, fresh-early, fresh-late, fresh-within; fresh-exactly; refusal-13, refusal-14, refusal-15,
 -- refusal-16, refusal-fresh, refusal-range.
 -- The definitions are in Fresh. Assumes nothing.
 use Prim.Native.Nat.{ℕ, _+_, _-_, _≤_, _<_}
@@ -14,7 +14,7 @@ use Rattle.freshness.specs.declared.Next.{Next}
 use Rattle.freshness.specs.declared.Next.the-variants.{At, Absent}
 use Rattle.freshness.specs.declared.Freshness.{Freshness}
 use Rattle.freshness.specs.declared.Freshness.the-variants.{Fresh, Endless, Reversed, Early, Late}
-use Rattle.freshness.specs.Fresh.{freshOf, refusalOf}
+use Rattle.freshness.specs.Fresh.{freshOf, freshRefusal}
 
 -- ---- each answer, where an entry has a nextUpdate
 
@@ -50,71 +50,65 @@ module _ (this next now tolerance : ℕ) where
       × (r ≡ 0 ↔ (this ≤ next) × (this ≤ now) × (now ≤ next + tolerance))
       × (r ≡ 13 → ⊥)
 
-  says : (r : ℕ) → r ≡ refusalOf (freshOf this (At next) now tolerance) → Says r
+  says : (r : ℕ) → r ≡ freshRefusal (freshOf this (At next) now tolerance) → Says r
   says r e = go (ltb next this) (ltb now this) (ltb (next + tolerance) now) refl refl refl
     where
       go : (t u v : Bool) → ltb next this ≡ t → ltb now this ≡ u → ltb (next + tolerance) now ≡ v → Says r
       go true u v p q w =
           let a = ltb-true next this p in
-          omega (arith, ap refusalOf (fresh-reversed a))
+          omega (arith, ap freshRefusal (fresh-reversed a))
       go false true v p q w =
           let a = ltb-false next this p in
           let b = ltb-true now this q in
-          omega (arith, ap refusalOf (fresh-early a b))
+          omega (arith, ap freshRefusal (fresh-early a b))
       go false false true p q w =
           let a = ltb-false next this p in
           let b = ltb-false now this q in
           let d = ltb-true (next + tolerance) now w in
-          omega (arith, ap refusalOf (fresh-late a b d))
+          omega (arith, ap freshRefusal (fresh-late a b d))
       go false false false p q w =
           let a = ltb-false next this p in
           let b = ltb-false now this q in
           let d = ltb-false (next + tolerance) now w in
-          omega (arith, ap refusalOf (fresh-within a b d))
+          omega (arith, ap freshRefusal (fresh-within a b d))
 
   -- 14: nextUpdate is before thisUpdate
-  pub refusal-14 : refusalOf (freshOf this (At next) now tolerance) ≡ 14 ↔ next < this
-  refusal-14 = says (refusalOf (freshOf this (At next) now tolerance)) refl .0
+  pub refusal-14 : freshRefusal (freshOf this (At next) now tolerance) ≡ 14 ↔ next < this
+  refusal-14 = says (freshRefusal (freshOf this (At next) now tolerance)) refl .0
 
   -- 15: thisUpdate is after now, and not 14
-  pub refusal-15 : refusalOf (freshOf this (At next) now tolerance) ≡ 15 ↔ (this ≤ next) × (now < this)
-  refusal-15 = says (refusalOf (freshOf this (At next) now tolerance)) refl .1
+  pub refusal-15 : freshRefusal (freshOf this (At next) now tolerance) ≡ 15 ↔ (this ≤ next) × (now < this)
+  refusal-15 = says (freshRefusal (freshOf this (At next) now tolerance)) refl .1
 
   -- 16: now is after nextUpdate plus tolerance, and neither 14 nor 15
-  pub refusal-16 : refusalOf (freshOf this (At next) now tolerance) ≡ 16 ↔ (this ≤ next) × (this ≤ now) × (next + tolerance < now)
-  refusal-16 = says (refusalOf (freshOf this (At next) now tolerance)) refl .2
+  pub refusal-16 : freshRefusal (freshOf this (At next) now tolerance) ≡ 16 ↔ (this ≤ next) × (this ≤ now) × (next + tolerance < now)
+  refusal-16 = says (freshRefusal (freshOf this (At next) now tolerance)) refl .2
 
   -- none: it counts from thisUpdate to nextUpdate plus tolerance, both included
   pub fresh-exactly : freshOf this (At next) now tolerance ≡ Fresh ↔ (this ≤ next) × (this ≤ now) × (now ≤ next + tolerance)
-  fresh-exactly = (λ e. says 0 (sym (ap refusalOf e)) .3 .0 refl, λ h. fresh-within (h .0) (h .1) (h .2))
+  fresh-exactly = (λ e. says 0 (sym (ap freshRefusal e)) .3 .0 refl, λ h. fresh-within (h .0) (h .1) (h .2))
 
 -- 13: there is no nextUpdate
-pub refusal-13 : (this : ℕ) (n : Next) (now tolerance : ℕ) → refusalOf (freshOf this n now tolerance) ≡ 13 ↔ n ≡ Absent
+pub refusal-13 : (this : ℕ) (n : Next) (now tolerance : ℕ) → freshRefusal (freshOf this n now tolerance) ≡ 13 ↔ n ≡ Absent
 unfolding freshOf
 refusal-13 this Absent now tolerance = (λ e. refl, λ e. refl)
 refusal-13 this (At next) now tolerance = (
   λ e. absurd (says this next now tolerance 13 (sym e) .4 refl),
-  λ e. ap (λ (n : Next). refusalOf (freshOf this n now tolerance)) e,
+  λ e. ap (λ (n : Next). freshRefusal (freshOf this n now tolerance)) e,
 )
-
--- an answer that counts has a nextUpdate
-pub fresh-ends : (this : ℕ) (n : Next) (now tolerance : ℕ) → freshOf this n now tolerance ≡ Fresh → (next : ℕ) × (n ≡ At next)
-unfolding freshOf
-fresh-ends this Absent now tolerance e = let z : _≡_ {A = ℕ} 0 1 = cc in absurd (omega arith)
-fresh-ends this (At next) now tolerance e = (next, refl)
 
 -- ---- the numbers
 
 -- 0 is for what counts, and for nothing else
-pub refusal-fresh : (f : Freshness) → refusalOf f ≡ 0 ↔ f ≡ Fresh
+pub refusal-fresh : (f : Freshness) → freshRefusal f ≡ 0 ↔ f ≡ Fresh
 refusal-fresh Fresh = (λ e. refl, λ e. refl)
-refusal-fresh Endless = (λ e. absurd (omega arith), λ e. ap refusalOf e)
-refusal-fresh (Reversed n) = (λ e. absurd (omega arith), λ e. ap refusalOf e)
-refusal-fresh (Early n) = (λ e. absurd (omega arith), λ e. ap refusalOf e)
-refusal-fresh (Late n) = (λ e. absurd (omega arith), λ e. ap refusalOf e)
+refusal-fresh Endless = (λ e. absurd (omega arith), λ e. ap freshRefusal e)
+refusal-fresh (Reversed n) = (λ e. absurd (omega arith), λ e. ap freshRefusal e)
+refusal-fresh (Early n) = (λ e. absurd (omega arith), λ e. ap freshRefusal e)
+refusal-fresh (Late n) = (λ e. absurd (omega arith), λ e. ap freshRefusal e)
 
 -- the others are 13 to 16
-pub refusal-range : (f : Freshness) → (refusalOf f ≡ 0) ⊎ ((13 ≤ refusalOf f) × (refusalOf f ≤ 16))
+pub refusal-range : (f : Freshness) → (freshRefusal f ≡ 0) ⊎ ((13 ≤ freshRefusal f) × (freshRefusal f ≤ 16))
 refusal-range Fresh = inl refl
 refusal-range Endless = inr (omega arith)
 refusal-range (Reversed n) = inr (omega arith)

@@ -64,7 +64,7 @@ pub fn judge_times(this: u64, next: Next, now: u64, tolerance: u64) -> Freshness
 pub fn clock_fits(clock: Clock) -> bool
     ensures { λ r. ⌜ r ≡ clockOk clock ⌝ }
 {
-    if 253402300799 < clock.now {
+    if calendar::LAST_SECOND < clock.now {
         return false;
     }
     clock.tolerance <= 3600

@@ -6,13 +6,11 @@ use native.Mathlib.Nat.{zero-add, le-antisymm}
 use native.Mathlib.Numerals.{add-one}
 use native.Mathlib.Omega.{arith}
 use mathlib.Core.Path.{_≡_, refl, sym, ap, ap₂, _∙_}
-use mathlib.Core.Bool.{cond}
 use mathlib.Core.List.{List, [], _∷_, _++_}
-use lib.Dec.{ltb}
 use lib.ListN.{length, getD, set, take, drop}
 use lib.Seq.{set-split, sets-eq, take-at, drop-at, drop-drop, take-suc, take-length, length-take-le}
 use borrow.Author.Tests.{lt-ltb, le-ltb}
-use Rattle.octets.specs.Buffer.{splice, putIn}
+use Rattle.octets.specs.Buffer.{splice, putIn, putSize}
 use Rattle.octets.specs.BufferLaws.{splice-splice, put-in-room, put-in-short, put-in-length}
 use Rattle.hex.specs.Hex.{digitOf, hexOf, hexLine}
 use Rattle.hex.specs.HexLaws.{hex-length, hex-append, line-length}
@@ -65,27 +63,27 @@ module _ (src out : List ℕ) where
 
 -- no room
 module _ (src out : List ℕ) where
-  pub hex-none : length out < length src * 2 → 0 ≡ cond (ltb (length out) (length (hexOf src))) 0 (length (hexOf src))
+  pub hex-none : length out < length src * 2 → 0 ≡ putSize out (hexOf src)
   hex-none h = rw (hex-length src, lt-ltb (length out) (length src * 2) h)
 
   pub hex-kept : length out < length src * 2 → out ≡ putIn out 0 (hexOf src)
   hex-kept h = sym (put-in-short out 0 (hexOf src) (omega (arith, hex-length src)))
 
   -- room
-  pub hex-size : length src * 2 ≤ length out → length src * 2 ≡ cond (ltb (length out) (length (hexOf src))) 0 (length (hexOf src))
+  pub hex-size : length src * 2 ≤ length out → length src * 2 ≡ putSize out (hexOf src)
   hex-size h = rw (hex-length src, le-ltb (length out) (length src * 2) h)
 
 -- ---- a line
 
 module _ (src out : List ℕ) where
-  pub line-none : length out ≤ length src * 2 → 0 ≡ cond (ltb (length out) (length (hexLine src))) 0 (length (hexLine src))
+  pub line-none : length out ≤ length src * 2 → 0 ≡ putSize out (hexLine src)
   line-none h = rw (lt-ltb (length out) (length (hexLine src)) (omega (arith, line-length src)))
 
   pub line-kept : length out ≤ length src * 2 → out ≡ putIn out 0 (hexLine src)
   line-kept h = sym (put-in-short out 0 (hexLine src) (omega (arith, line-length src)))
 
   module _ (room : length src * 2 < length out) where
-    pub line-size : length src * 2 + 1 ≡ cond (ltb (length out) (length (hexLine src))) 0 (length (hexLine src))
+    pub line-size : length src * 2 + 1 ≡ putSize out (hexLine src)
     line-size = rw (le-ltb (length out) (length (hexLine src)) (omega (arith, line-length src))) (sym (line-length src))
 
     module _ (o : List ℕ) (e : o ≡ putIn out 0 (hexOf src)) where

@@ -4,10 +4,7 @@
 // buffer is as it was.
 ghost use Prim.Native.Nat.{_<_};
 ghost use mathlib.Core.Path.{_≡_};
-ghost use mathlib.Core.Bool.{cond};
-ghost use lib.Dec.{ltb};
-ghost use lib.ListN.{length};
-ghost use Rattle.octets.specs.Buffer.{putIn};
+ghost use Rattle.octets.specs.Buffer.{putIn, putSize};
 ghost use Rattle.hex.specs.Hex.{digitOf, hexOf, hexLine};
 
 // The digit of a number below 16.
@@ -24,7 +21,7 @@ pub(crate) fn digit(n: u8) -> u8
 // Writes two digits for each octet at the start of a buffer: how many, or 0 where there is no room
 // for them.
 pub fn hex(src: &[u8], out: &mut [u8]) -> usize
-    ensures { λ r. ⌜ r ≡ cond (ltb (length (now (out .entry))) (length (hexOf (now (src .entry))))) 0 (length (hexOf (now (src .entry)))) ⌝ }
+    ensures { λ r. ⌜ r ≡ putSize (now (out .entry)) (hexOf (now (src .entry))) ⌝ }
     ensures { λ _. ⌜ now (out .exit) ≡ putIn (now (out .entry)) 0 (hexOf (now (src .entry))) ⌝ }
 {
     let size = src.len() * 2;
@@ -47,7 +44,7 @@ pub fn hex(src: &[u8], out: &mut [u8]) -> usize
 // Writes the digits and a line feed at the start of a buffer: how many octets, or 0 where there is no
 // room for them.
 pub fn hex_line(src: &[u8], out: &mut [u8]) -> usize
-    ensures { λ r. ⌜ r ≡ cond (ltb (length (now (out .entry))) (length (hexLine (now (src .entry))))) 0 (length (hexLine (now (src .entry)))) ⌝ }
+    ensures { λ r. ⌜ r ≡ putSize (now (out .entry)) (hexLine (now (src .entry))) ⌝ }
     ensures { λ _. ⌜ now (out .exit) ≡ putIn (now (out .entry)) 0 (hexLine (now (src .entry))) ⌝ }
 {
     let size = src.len() * 2;

@@ -12,6 +12,7 @@ use Rattle.calendar.specs.Examples.{text}
 use Rattle.layout.specs.Reading.{Algorithm, good, byKey, Basic, failed, basic}
 use Rattle.layout.specs.Read.{der, reads, otherType, unfit, reading}
 use Rattle.layout.specs.Opened.{opened}
+use Rattle.layout.specs.Sha1.{sha1}
 
 -- an error response reads as its status
 unauthorized : reading (0x30 ∷ 0x03 ∷ 0x0a ∷ 0x01 ∷ 0x06 ∷ []) ≡ reads (failed 6)
@@ -32,10 +33,7 @@ unfolding opened
 other-type = refl
 
 -- ── what the basic responses are made of ──
--- SHA-1 and Ed25519, as OID contents
-abbrev pub sha1 : List ℕ
-sha1 = 0x2b ∷ 0x0e ∷ 0x03 ∷ 0x02 ∷ 0x1a ∷ []
-
+-- Ed25519, as an OID's content
 abbrev pub ed25519 : List ℕ
 ed25519 = 0x2b ∷ 0x65 ∷ 0x70 ∷ []
 

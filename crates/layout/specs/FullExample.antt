@@ -12,7 +12,8 @@ use Rattle.codec.specs.Tree.{prim, node, stop, more}
 use Rattle.layout.specs.Reading.{revoked, unknown, Entry, byName, Basic, basic}
 use Rattle.layout.specs.Read.{der, reads, reading}
 use Rattle.layout.specs.Opened.{opened}
-use Rattle.layout.specs.Examples.{sha1, typeElement, first, next, hashes, signature, signer}
+use Rattle.layout.specs.Examples.{typeElement, first, next, hashes, signature, signer}
+use Rattle.layout.specs.Sha1.{sha1}
 
 abbrev revokedEntry : List ℕ
 revokedEntry =

@@ -103,13 +103,13 @@ unfoldable pub freeSequence : Element Tree
 freeSequence = treeTagged 0x30 16
 
 unfoldable pub time : Element ℕ
-time = primitive 0x18 words.time tag-18 (lit< tt)
+time = primitive 0x18 words.timeContent tag-18 (lit< tt)
 
 unfoldable pub serial : Element ℕ
-serial = primitive 0x02 words.serial tag-02 (lit< tt)
+serial = primitive 0x02 words.serialContent tag-02 (lit< tt)
 
 unfoldable pub oid : Element (List ℕ)
-oid = primitive 0x06 words.oid tag-06 (lit< tt)
+oid = primitive 0x06 words.oidContent tag-06 (lit< tt)
 
 -- a hash: an OCTET STRING of 1 to 64
 unfoldable pub hash : Element (List ℕ)

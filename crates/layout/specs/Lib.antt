@@ -7,7 +7,7 @@ pub mod EntryFormat
 pub mod Format
 pub mod Read
 pub mod Limits
-pub mod PartLimits
+pub mod PartLimitsLaws
 pub mod LimitsLaws
 pub mod InnerLaws
 pub mod ReadLaws
@@ -16,3 +16,4 @@ pub mod Opened
 pub mod Examples
 pub mod FullExample
 pub mod Refusals
+pub mod Sha1

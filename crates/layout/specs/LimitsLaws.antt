@@ -1,7 +1,7 @@
 -- The plain limits of an entry, the signed part, a basic response and the envelope are exactly what the
 -- layout's codecs ask.
 -- entry-limits; key-limits, responder-limits, signed-limits, signature-limits, certificates-limits,
--- basic-limits; failure-limits, success-limits. What an entry is made of is in PartLimits.
+-- basic-limits; failure-limits, success-limits. What an entry is made of is in PartLimitsLaws.
 -- Assumes nothing.
 use Prim.Native.Nat.{ℕ, _≤_}
 use native.Mathlib.Omega.{arith}
@@ -14,7 +14,7 @@ use Rattle.octets.specs.Octets.{Octets}
 use Rattle.codec.specs.Tree.{Tree}
 use Rattle.layout.specs.Reading.{Entry, Responder, byName, byKey, Signed, Basic}
 use Rattle.layout.specs.Limits.{TimeOk, OidOk, SequenceOk, ExtensionsOk, EntryOk, KeyOk, ResponderOk, SignedOk, SignatureOk, CertificatesOk, BasicOk, FailureOk}
-use Rattle.layout.specs.PartLimits.{option-limits, all-limits, between-limits, most-but, sequence-limits, oid-limits, time-limits, algorithm-limits, cert-limits, status-limits, extensions-limits}
+use Rattle.layout.specs.PartLimitsLaws.{option-limits, all-limits, between-limits, most-but, sequence-limits, oid-limits, time-limits, algorithm-limits, cert-limits, status-limits, extensions-limits}
 use Rattle.layout.specs.Words.{statusOk}
 use Rattle.layout.specs.Kinds.{freeSequence}
 use Rattle.layout.specs.Names.{failure, success}

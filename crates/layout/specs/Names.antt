@@ -29,28 +29,28 @@ cert w =
 abbrev pub StatusParts : Type 0
 StatusParts = Unit {0} ⊎ (Unit {0} ⊎ (ℕ × Option ℕ))
 
-abbrev pub statusOf : StatusParts → Status
-statusOf (inl u) = good
-statusOf (inr (inl u)) = unknown
-statusOf (inr (inr r)) = revoked (r .0) (r .1)
+abbrev pub statusFrom : StatusParts → Status
+statusFrom (inl u) = good
+statusFrom (inr (inl u)) = unknown
+statusFrom (inr (inr r)) = revoked (r .0) (r .1)
 
 abbrev pub statusParts : Status → StatusParts
 statusParts good = inl tt
 statusParts unknown = inr (inl tt)
 statusParts (revoked t r) = inr (inr (t, r))
 
-pub status-named : (s : Status) → statusOf (statusParts s) ≡ s
+pub status-named : (s : Status) → statusFrom (statusParts s) ≡ s
 status-named good = refl
 status-named unknown = refl
 status-named (revoked t r) = refl
 
-pub status-parted : (x : StatusParts) → statusParts (statusOf x) ≡ x
+pub status-parted : (x : StatusParts) → statusParts (statusFrom x) ≡ x
 status-parted (inl u) = refl
 status-parted (inr (inl u)) = refl
 status-parted (inr (inr r)) = refl
 
 abbrev pub status : Element StatusParts → Element Status
-status e = mappedElement statusOf statusParts status-named status-parted e
+status e = mappedElement statusFrom statusParts status-named status-parted e
 
 -- an extension is critical where TRUE is written
 abbrev pub isThere : Option (Unit {0}) → Bool

@@ -1,6 +1,6 @@
 -- Contents that are read as numbers: a time as seconds since 1970, a serial as a whole number. That they
 -- are rests on the laws of calendar and content.
--- lastSecond, timeRead, time; serialRead, serial. The other contents are in Words.
+-- timeRead, timeContent; serialRead, serialContent. The other contents are in Words.
 -- Assumes nothing.
 use Prim.Native.Nat.{ℕ, _<_, _≤_, _^_}
 use native.Mathlib.Omega.{arith}
@@ -13,7 +13,7 @@ use Rattle.octets.specs.OctetsLaws.{octets-from}
 use Rattle.octets.specs.Number.{valueOf}
 use Rattle.content.specs.Serial.{serialOk, serialForm}
 use Rattle.content.specs.SerialLaws.{serial-sound, serial-complete}
-use Rattle.calendar.specs.Time.{timeOf, timeForm}
+use Rattle.calendar.specs.Time.{lastSecond, timeOf, timeForm}
 use Rattle.calendar.specs.TimeLaws.{time-sound, time-complete, time-octets}
 use Rattle.calendar.specs.declared.Time.{Time}
 use Rattle.calendar.specs.declared.Time.the-variants.{At, No}
@@ -26,10 +26,6 @@ none-some e = let z : _≡_ {A = ℕ} 0 1 = cc in absurd (omega arith)
 pub passed : {A : Type 0} (b : Bool) (x a : A) → cond b (some x) none ≡ some a → (b ≡ true) × (x ≡ a)
 passed true x a e = (refl, cc)
 passed false x a e = none-some e
-
--- the last second of year 9999
-abbrev pub lastSecond : ℕ
-lastSecond = 253402300799
 
 abbrev pub secondsIn : Time → Option ℕ
 secondsIn (At n) = some n
@@ -51,8 +47,8 @@ unfolding timeRead
 time-full n h = rw (time-complete n h)
 
 -- a time, as seconds since 1970, up to the last second of year 9999
-abbrev pub time : Content ℕ
-time = record {
+abbrev pub timeContent : Content ℕ
+timeContent = record {
   dec = timeRead;
   enc = timeForm;
   ok = λ n. n ≤ lastSecond;
@@ -75,8 +71,8 @@ pub serial-full : (n : ℕ) → n < 2 ^ 159 → serialRead (serialForm n) ≡ so
 unfolding serialRead
 serial-full n h = let v = serial-complete n h in rw (v .0, v .1)
 
-abbrev pub serial : Content ℕ
-serial = record {
+abbrev pub serialContent : Content ℕ
+serialContent = record {
   dec = serialRead;
   enc = serialForm;
   ok = λ n. n < 2 ^ 159;

@@ -13,7 +13,7 @@ use Rattle.content.specs.Oid.{oidFrom, oidOk}
 use Rattle.content.specs.Serial.{leadOk, serialOk, serialCount, serialForm}
 use Rattle.calendar.specs.Split.{before, find}
 use Rattle.calendar.specs.Date.{leapOf, yearLen, monthLen}
-use Rattle.calendar.specs.Time.{isReal, secondsOf, pairOf, clockOf, timeOf, momentOf, timeForm, formOf as momentForm}
+use Rattle.calendar.specs.Time.{isReal, secondsOf, pairOf, clockOf, timeOf, momentOf, timeForm, momentForm}
 use Rattle.codec.specs.Contents.{octetsRead, fixedRead, filledDec}
 use Rattle.codec.specs.Tagged.{taggedDec}
 use Rattle.codec.specs.Mapped.{mappedDec, calledDec}

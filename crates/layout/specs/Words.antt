@@ -1,5 +1,5 @@
 -- The contents of the layout's primitive elements: what each may be, and as what it is read.
--- time and serial (in Numbers), oid, bits, single, empty, yes; the tests between, anything, reasonOk,
+-- timeContent and serialContent (in Numbers), oidContent, bits, single, empty, yes; the tests between, anything, reasonOk,
 -- statusOk.
 -- Assumes nothing.
 use Prim.Native.Nat.{ℕ, _<_}
@@ -16,12 +16,12 @@ use Rattle.content.specs.Oid.{oidOk}
 use Rattle.codec.specs.Codec.{Content}
 use Rattle.codec.specs.Contents.{octetsContent, fixedContent}
 use Rattle.layout.specs.Numbers.{none-some, passed}
-pub use Rattle.layout.specs.Numbers.{lastSecond, secondsIn, time-read, time-full, time, serial-read, serial-full, serial}
+pub use Rattle.layout.specs.Numbers.{secondsIn, time-read, time-full, timeContent, serial-read, serial-full, serialContent}
 unfoldable pub use Rattle.layout.specs.Numbers.{timeRead, serialRead}
 
 -- an OID
-abbrev pub oid : Content (List ℕ)
-oid = octetsContent oidOk
+abbrev pub oidContent : Content (List ℕ)
+oidContent = octetsContent oidOk
 
 -- at least lo octets and at most hi
 unfoldable pub between : ℕ → ℕ → List ℕ → Bool

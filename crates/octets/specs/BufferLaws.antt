@@ -1,6 +1,6 @@
 -- Laws of writing into a buffer.
--- room-le, room-lt and back room-true, room-false; splice-length, splice-nil, splice-take, splice-front,
--- splice-at, splice-drop, splice-splice; put-in-room, put-in-short, put-in-length; put-answer-room, put-answer-short.
+-- room-le, room-lt and back room-true; splice-length, splice-nil, splice-take, splice-front,
+-- splice-drop, splice-splice; put-in-room, put-in-short, put-in-length; put-answer-room, put-answer-short.
 -- The definitions are in Buffer. Assumes nothing.
 use Prim.Native.Nat.{ℕ, _+_, _-_, _≤_, _<_}
 use native.Mathlib.Nat.{add-assoc, add-zero}
@@ -11,7 +11,7 @@ use mathlib.Core.List.{List, [], _++_, append-assoc}
 use lib.Dec.{leb}
 use lib.ListN.{length, take, drop, length-append, length-drop, take-append-drop}
 use lib.Seq.{length-take-le, take-at, drop-at, take-append-le, take-take, drop-drop}
-use borrow.Author.Tests.{leb-true, leb-false, le-leb, lt-leb}
+use borrow.Author.Tests.{leb-true, le-leb, lt-leb}
 use Rattle.octets.specs.declared.Written.the-variants.{Next, Short}
 use Rattle.octets.specs.Buffer.{roomFor, splice, putIn, putAnswer}
 use Rattle.octets.specs.SameLaws.{impossible}
@@ -38,15 +38,6 @@ room-true size at n r = go (leb at size) refl r
     go : (u : Bool) → leb at size ≡ u → cond u (leb n (size - at)) false ≡ true → at + n ≤ size
     go true e r = omega (arith, leb-true at size e, leb-true n (size - at) r)
     go false e r = impossible r
-
--- no room: they would end outside
-pub room-false : (size at n : ℕ) → roomFor size at n ≡ false → size < at + n
-unfolding roomFor
-room-false size at n r = go (leb at size) refl r
-  where
-    go : (u : Bool) → leb at size ≡ u → cond u (leb n (size - at)) false ≡ false → size < at + n
-    go true e r = omega (arith, leb-true at size e, leb-false n (size - at) r)
-    go false e r = omega (arith, leb-false at size e)
 
 -- nothing new
 pub splice-nil : (out : List ℕ) (at : ℕ) → splice out at [] ≡ out
@@ -77,12 +68,6 @@ module _ (out : List ℕ) (at : ℕ) (new : List ℕ) where
   -- what stands up to the end of the new octets
   pub splice-front : at ≤ length out → take (at + length new) (splice out at new) ≡ take at out ++ new
   splice-front h = ap (take (at + length new)) cut ∙ take-at front (drop (at + length new) out) (at + length new) (front-length h)
-
-  -- at the place stand the new octets
-  pub splice-at : at ≤ length out → take (length new) (drop at (splice out at new)) ≡ new
-  splice-at h =
-      ap (take (length new)) (drop-at (take at out) (new ++ drop (at + length new) out) at (length-take-le at out h))
-      ∙ take-at new (drop (at + length new) out) (length new) refl
 
   -- what stands after the new octets stays
   pub splice-drop : at ≤ length out → drop (at + length new) (splice out at new) ≡ drop (at + length new) out

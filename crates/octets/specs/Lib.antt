@@ -1,5 +1,6 @@
 pub mod Octets
 pub mod OctetsLaws
+pub mod LentLaws
 pub mod Number
 pub mod NumberLaws
 pub mod Same

@@ -1,9 +1,9 @@
 -- Laws of numbers as octets, over the width.
 -- pow256, pow256-pos; value-append, value-snoc, value-bound, value-low; octets-length, octets-octets,
--- octets-snoc, octets-high; value-mod, value-octets, octets-value; number-wide, number-outside, number-inside.
+-- octets-high; value-mod, value-octets, octets-value; number-wide, number-outside, number-inside.
 -- The definitions are in Number. Assumes nothing.
 use Prim.Native.Nat.{ℕ, zero, suc, _+_, _-_, _*_, _/_, _%_, _^_, _≤_, _<_}
-use native.Mathlib.Nat.{zero-mul, zero-add, mul-assoc, add-mul, add-assoc, mul-suc, pow-suc, pow-succ', one-le-pow, div-one, div-div-eq-div-mul, mod-lt, mod-one, mod-eq-of-lt, mul-add-div-right, mul-add-mod-self-right, le-trans, le-of-eq, le-add-right, mul-le-mul-right, one-mul}
+use native.Mathlib.Nat.{zero-mul, zero-add, mul-assoc, add-mul, add-assoc, mul-suc, pow-suc, pow-succ', one-le-pow, mod-lt, mod-one, mod-eq-of-lt, mul-add-div-right, mul-add-mod-self-right, le-trans, le-of-eq, le-add-right, mul-le-mul-right, one-mul}
 use native.Mathlib.Omega.{arith}
 use mathlib.Core.Path.{_≡_, refl, sym, ap, ap₂, subst, _∙_}
 use mathlib.Core.List.{List, [], _∷_, _++_}
@@ -65,16 +65,6 @@ pub octets-octets : (w n : ℕ) → Octets (octetsOf w n)
 unfolding octetsOf
 octets-octets zero n = tt
 octets-octets (suc w) n = (mod-lt (n / 256 ^ w) (lit< tt), octets-octets w n)
-
--- the last octet, and those before it
-pub octets-snoc : (w n : ℕ) → octetsOf (suc w) n ≡ octetsOf w (n / 256) ++ (n % 256 ∷ [])
-unfolding octetsOf
-octets-snoc zero n = ap (λ (x : ℕ). x % 256 ∷ []) (div-one n)
-octets-snoc (suc w) n =
-    ap₂
-    (λ (x : ℕ) (t : List ℕ). x % 256 ∷ t)
-    (ap (λ (b : ℕ). n / b) (pow-succ' 256 w) ∙ sym (div-div-eq-div-mul n 256 (256 ^ w)))
-    (octets-snoc w n)
 
 -- what stands above the last w octets does not change them
 pub octets-high : (w q r : ℕ) → octetsOf w (q * 256 ^ w + r) ≡ octetsOf w r

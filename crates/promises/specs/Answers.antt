@@ -2,7 +2,7 @@
 -- exactly when its row is the first of the table that applies, and nothing that is old.
 -- accepted-in-full, in-range-in-full; good-exactly, revoked-exactly, unknown-exactly, answered-exactly, never-old.
 -- Refusals are in Refusals, that no answer is about another card is in OneCard.
--- `answerOf` is what ruling::check answers for a question, the signer's Name and a response (rules: Ruling).
+-- `answerOf` is what rule_check::check answers for a question, the signer's Name and a response (rules: Ruling).
 -- Assumes nothing.
 use Prim.Native.Nat.{ℕ, _+_, _≤_}
 use mathlib.Core.Logic.{_↔_}

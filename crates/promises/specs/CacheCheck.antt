@@ -19,11 +19,11 @@ use Rattle.slip.specs.Slip.{slipOf}
 use Rattle.rules.specs.declared.Question.{Question}
 use Rattle.rules.specs.Ruling.{answerOf}
 use Rattle.rules.specs.Accepted.{NoRefusal}
-use Rattle.question.specs.Asked.{questionIn, nameIn, asked}
+use Rattle.desk_question.specs.Asked.{questionIn, nameIn, asked}
 use Rattle.freshness.specs.Clock.{clockOk}
 use Rattle.freshness.specs.declared.Clock.{Clock}
 use Rattle.cache_rules.specs.declared.Filed.the-variants.{Count, Refused}
-use Rattle.cache_rules.specs.Place.{saysAt, thisOf, saysOf, Whole}
+use Rattle.cache_rules.specs.Place.{saysAt, thisOf, saysOf, WholeCard}
 use Rattle.cache_rules.specs.Cache.{placeIn, isCache, filedOf, bufferOf, told, askOf}
 use Rattle.cache_rules.specs.Has.{Has}
 use Rattle.cache_rules.specs.Many.{afterAll, AllOctets, ForOthers}
@@ -74,7 +74,7 @@ module _ (q : Question) (name r : List ℕ) (v : NoRefusal (answerOf q name r .v
     filed-since = filing.filed-since clock s t o p n accepted q name r v says newest
 
   -- the slip that slip_write::write_slip writes for the answer is such a slip: it says it, and filing it never gives 17
-  module _ (o : Octets r) (w : Whole (q .card)) where
+  module _ (o : Octets r) (w : WholeCard (q .card)) where
     pub written-says : saysOf (slipOf (answerOf q name r)) ≡ answerOf q name r
     written-says = filing.check-slip q name r o v w
 

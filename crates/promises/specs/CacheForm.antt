@@ -23,13 +23,13 @@ use Rattle.slip.specs.Slip.{slipOf, slipOk}
 use Rattle.freshness.specs.Clock.{clockOk}
 use Rattle.freshness.specs.ClockLaws.{clock-exactly}
 use Rattle.freshness.specs.declared.Clock.{Clock}
-use Rattle.cache_rules.specs.Place.{kindAt, cardAt, saysAt, isSaid, placeOk, placeOf, saysOf, Whole}
+use Rattle.cache_rules.specs.Place.{kindAt, cardAt, saysAt, isSaid, placeOk, placeOf, saysOf, WholeCard}
 use Rattle.cache_rules.specs.Cache.{placeIn, isCache}
 use Rattle.cache_rules.specs.Has.{Has}
 use Rattle.cache_rules.specs.FitLaws.{slip-exactly, place-exactly, empty-exactly}
 use Rattle.cache_rules.specs.CacheLaws.{place-at, place-octets, place-fit, cache-places}
 use Rattle.cache_rules.specs.AskTheorem.{has-exactly}
-use Rattle.cache_rules.specs.Examples.{shown}
+use Rattle.cache_rules.specs.Examples.{cacheComputes}
 
 -- a buffer is a cache exactly if it has 5,568 octets, each of its 64 places fits, and two places with one card are one
 -- place; empty places have no card
@@ -53,7 +53,7 @@ place-in-full p o l = place-exactly p o l
 -- octets are a slip that may be filed exactly if they are that of an answer of kind 01, 02 or 03 that keeps the slip
 -- rules
 pub slip-in-full : (t : List ℕ) → Octets t
-    → isSaid (saysOf t) ≡ true ↔ (a : Answer) × (kindOf (a .verdict) < 4) × (slipOk a ≡ true) × Whole (a .card) × (slipOf a ≡ t)
+    → isSaid (saysOf t) ≡ true ↔ (a : Answer) × (kindOf (a .verdict) < 4) × (slipOk a ≡ true) × WholeCard (a .card) × (slipOf a ≡ t)
 slip-in-full = slip-exactly
 
 -- a place of a cache has no card exactly if it is all zeros
@@ -62,7 +62,7 @@ empty-in-full s i b o c = empty-exactly (placeIn s i) (place-octets s i b o) (pl
 
 -- a new cache is zeros
 pub new-cache : isCache (replicate 5568 0) ≡ true
-unfolding shown
+unfolding cacheComputes
 new-cache = refl
 
 -- ── a card ──
@@ -73,7 +73,7 @@ unfolding cardAt rowOf rowIn
 card-in-full p h = ⊎-elim (λ e. rw e) (⊎-elim (λ e. rw e) (λ e. rw e)) h
 
 -- a place of a cache has a card in range exactly if its slip says something about that card, in every octet
-pub has-in-full : (s : List ℕ) (i : ℕ) (card : Card) → Octets s → isCache s ≡ true → Whole card → cardOk card ≡ true
+pub has-in-full : (s : List ℕ) (i : ℕ) (card : Card) → Octets s → isCache s ≡ true → WholeCard card → cardOk card ≡ true
     → Has s i card ↔ (i < 64) × (isSaid (saysAt (placeIn s i)) ≡ true) × (saysAt (placeIn s i) .card ≡ card)
 has-in-full = has-exactly
 

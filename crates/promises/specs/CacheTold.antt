@@ -20,18 +20,18 @@ use Rattle.answer.specs.declared.Answer.{Answer}
 use Rattle.answer.specs.Verdict.{kindOf, refused}
 use Rattle.fields.specs.Field.{cardIn}
 use Rattle.slip.specs.Slip.{slipOf, Sized}
+use Rattle.show.specs.Parts.{emptySpan}
 use Rattle.show.specs.Shown.{octetsIn}
-use Rattle.intake.specs.Kept.{keptOf}
+use Rattle.desk_intake.specs.Kept.{keptOf}
 use Rattle.cache_rules.specs.declared.Filed.the-variants as filed
 use Rattle.cache_rules.specs.Cache.{roomOf, isCache, filedOf, bufferOf, told, notHeld, askOf}
 use Rattle.cache_rules.specs.Numbers.{filedNumber, filedCount}
-use Rattle.cache_ask.specs.Found.{cardForm, foundOf}
-use Rattle.desk_c.specs.Places.{empty}
+use Rattle.cache_ask.specs.Found.{cardOrZeros, askFound}
 use Rattle.desk_c.specs.Caches.{foundNumber, foundSpan}
 use Rattle.desk_c.specs.CachesLaws as c
-use Rattle.cache_line.specs.Input.{inputForm, roomLeast}
+use Rattle.cache_line.specs.Input.{inputForm, cacheRoomLeast}
 use Rattle.cache_line.specs.Marks.{marksOf}
-use Rattle.cache_line.specs.Reply.{numbered, accepted, filedReply, filedCache, newCache, replyOf, cacheOf}
+use Rattle.cache_line.specs.Reply.{numbered, acceptedReply, filedReply, filedCache, newCache, replyOf, cacheOf}
 use Rattle.cache_line.specs.Told.{toldReply}
 use Rattle.cache_line.specs.RoomTheorem as room
 use Rattle.cache_line.specs.WholeLaws.{kept-same-reply, kept-same-cache}
@@ -40,26 +40,26 @@ use Rattle.cache_line.specs.WholeLaws.{kept-same-reply, kept-same-cache}
 
 module _ (clock : Clock) (card s : List ℕ) where
   -- where the number is not 0, the part is empty; it always lies in the cache
-  pub c-ask-nothing : (foundNumber (foundOf clock card s) ≡ 0 → ⊥) → foundSpan s (foundOf clock card s) ≡ empty
+  pub c-ask-nothing : (foundNumber (askFound clock card s) ≡ 0 → ⊥) → foundSpan s (askFound clock card s) ≡ emptySpan
   c-ask-nothing = c.ask-nothing clock card s
 
-  pub c-ask-inside : foundSpan s (foundOf clock card s) .start + foundSpan s (foundOf clock card s) .len ≤ length s
+  pub c-ask-inside : foundSpan s (askFound clock card s) .start + foundSpan s (askFound clock card s) .len ≤ length s
   c-ask-inside = c.ask-inside clock card s
 
   -- another number of octets than 61 gives 19 where the buffer is no cache, else 1
-  pub c-ask-length : (length card ≡ 61 → ⊥) → foundNumber (foundOf clock card s) ≡ cond (isCache s) 1 19
+  pub c-ask-length : (length card ≡ 61 → ⊥) → foundNumber (askFound clock card s) ≡ cond (isCache s) 1 19
   c-ask-length = c.ask-other-length clock card s
 
   module _ (o : Octets s) (p : Octets card) (l : length card ≡ 61) where
     -- 256 exactly if asking gives "not held", 0 exactly if it gives an answer, another number exactly if it gives that refusal
-    pub c-ask-exactly : (foundNumber (foundOf clock card s) ≡ 256 ↔ askOf clock (cardIn 20 card) s ≡ notHeld)
-        × (foundNumber (foundOf clock card s) ≡ 0 ↔ (a : Answer) × (kindOf (a .verdict) < 4) × (askOf clock (cardIn 20 card) s ≡ told a))
-        × ((n : ℕ) → 0 < n → n < 256 → foundNumber (foundOf clock card s) ≡ n ↔ askOf clock (cardIn 20 card) s ≡ told (refused n 0))
+    pub c-ask-exactly : (foundNumber (askFound clock card s) ≡ 256 ↔ askOf clock (cardIn 20 card) s ≡ notHeld)
+        × (foundNumber (askFound clock card s) ≡ 0 ↔ (a : Answer) × (kindOf (a .verdict) < 4) × (askOf clock (cardIn 20 card) s ≡ told a))
+        × ((n : ℕ) → 0 < n → n < 256 → foundNumber (askFound clock card s) ≡ n ↔ askOf clock (cardIn 20 card) s ≡ told (refused n 0))
     c-ask-exactly = c.ask-exactly clock card s o p l
 
     -- the octets that are shown are the slip of the answer
     pub c-ask-slip : (a : Answer) → kindOf (a .verdict) < 4 → askOf clock (cardIn 20 card) s ≡ told a
-        → octetsIn s (foundSpan s (foundOf clock card s)) ≡ slipOf a
+        → octetsIn s (foundSpan s (askFound clock card s)) ≡ slipOf a
     c-ask-slip = c.ask-slip clock card s o p l
 
 -- ── desk_cache_file: 0 and the count, or the refusal's number and 0 ──
@@ -83,12 +83,12 @@ module _ (clock : Clock) (a : clock .now < 2 ^ 64) (b : clock .tolerance < 2 ^ 6
 
   -- 02 answers what asking gives
   pub room-asks : Octets s → (card : Card) → Sized 20 card
-      → (replyOf (inputForm 2 clock (cardForm card) s) ≡ toldReply (askOf clock card s)) × (cacheOf (inputForm 2 clock (cardForm card) s) ≡ [])
+      → (replyOf (inputForm 2 clock (cardOrZeros card) s) ≡ toldReply (askOf clock card s)) × (cacheOf (inputForm 2 clock (cardOrZeros card) s) ≡ [])
   room-asks = room.ask-answered clock a b s
 
   -- 03 answers the marks of the places
   pub room-lists : isCache s ≡ true → clockOk clock ≡ true
-      → (replyOf (inputForm 3 clock [] s) ≡ accepted (marksOf clock (roomOf s))) × (cacheOf (inputForm 3 clock [] s) ≡ [])
+      → (replyOf (inputForm 3 clock [] s) ≡ acceptedReply (marksOf clock (roomOf s))) × (cacheOf (inputForm 3 clock [] s) ≡ [])
   room-lists = room.list-answered clock a b s
 
 -- whatever the input is, what follows the line is nothing, or a cache
@@ -96,5 +96,5 @@ pub room-follows : (l : List ℕ) → Octets l → (cacheOf l ≡ []) ⊎ (isCac
 room-follows = room.follows-fits
 
 -- what is kept of an input in room enough is answered as the whole input
-pub room-kept : (n : ℕ) (l : List ℕ) → roomLeast ≤ n → Octets (keptOf n l) → (replyOf (keptOf n l) ≡ replyOf l) × (cacheOf (keptOf n l) ≡ cacheOf l)
+pub room-kept : (n : ℕ) (l : List ℕ) → cacheRoomLeast ≤ n → Octets (keptOf n l) → (replyOf (keptOf n l) ≡ replyOf l) × (cacheOf (keptOf n l) ≡ cacheOf l)
 room-kept n l h o = (kept-same-reply n l h o, kept-same-cache n l h o)

@@ -1,6 +1,6 @@
 -- The kinds of claims that document 01's marked examples make, as data, and what it is for one to hold, computed by the
 -- library's own definitions.
--- Claim; question; holds. The examples are in Marked.
+-- Claim; caseQuestion; holds. The examples are in Marked.
 -- Assumes nothing.
 use Prim.Native.Nat.{ℕ, _+_}
 use mathlib.Core.Bool.{Bool, true, false, _&&_, not}
@@ -18,7 +18,7 @@ use Rattle.calendar.specs.Examples.{text}
 use Rattle.calendar.specs.Time.{timeOf, timeForm}
 use Rattle.calendar.specs.declared.Time.{Time}
 use Rattle.calendar.specs.declared.Time.the-variants.{At, No}
-use Rattle.freshness.specs.Fresh.{freshOf, refusalOf}
+use Rattle.freshness.specs.Fresh.{freshOf, freshRefusal}
 use Rattle.freshness.specs.declared.Next.the-variants as update
 use Rattle.answer.specs.Verdict.{numberOf}
 use Rattle.answer.specs.declared.Card.{Card}
@@ -65,8 +65,8 @@ isRefused (Found t h n) = false
 isRefused (Refused p) = true
 
 -- the question of document 01's case, whose response is any
-abbrev pub question : Question
-question = record {
+abbrev pub caseQuestion : Question
+caseQuestion = record {
   card = record { name = replicate 20 0x11; key = replicate 20 0x22; serial = 5 ∷ replicate 19 0; size = 1 };
   now = 1114909200;
   tolerance = 0;
@@ -84,6 +84,6 @@ holds (isLength n l) = sameOf (lengthForm n) l && isFound (headerOf (0x04 ∷ (l
 holds (noLength l n) = isRefused (headerOf (0x04 ∷ (l ++ replicate n 0)))
 holds (isSerial l n) = serialOk l && eqb (valueOf l) n && sameOf (serialForm n) l
 holds (noSerial l) = not (serialOk l)
-holds (gives s n) = eqb (numberOf (answerOf question [] s .verdict)) n
-holds (counts this next tolerance now n) = eqb (refusalOf (freshOf this (update.At next) now tolerance)) n
+holds (gives s n) = eqb (numberOf (answerOf caseQuestion [] s .verdict)) n
+holds (counts this next tolerance now n) = eqb (freshRefusal (freshOf this (update.At next) now tolerance)) n
 holds (request c n l) = eqb (requestRefusal c) 0 && eqb (length (requestOf c)) n && sameOf (take (length l) (requestOf c)) l

@@ -2,7 +2,7 @@
 -- question-form, question-fields, question-name; desk-asks, desk-refuses, desk-short; desk-slip; desk-line; kept, kept-chunk,
 -- kept-enough, kept-same-line; case.
 -- `deskOf` is the answer to an input, a question of 353 octets and then the response (question: Asked), `lineOf` the line
--- that deskline::line_for writes (question: Line), `keptOf` what intake::keep has kept of an input (intake: Kept). What is read
+-- that desk_line::line_for writes (question: Line), `keptOf` what desk_intake::keep has kept of an input (intake: Kept). What is read
 -- from outside and written there, no theorem says.
 -- Assumes nothing.
 use Prim.Native.Nat.{ℕ, _+_, _≤_, _<_}
@@ -20,15 +20,15 @@ use Rattle.rules.specs.Examples.{failure}
 use Rattle.slip.specs.Slip.{slipOf, slipOk, readOf}
 use Rattle.slip.specs.SlipLaws.{read-written}
 use Rattle.hex.specs.Hex.{hexOf}
-use Rattle.question.specs.Asked.{nameSize, questionIn, nameIn, fillIn, questionOk, asked, deskOf}
-use Rattle.question.specs.AskedLaws as desk
-use Rattle.question.specs.SizeLaws.{asked-sized}
-use Rattle.question.specs.Line.{lineOf}
-use Rattle.question.specs.LineLaws.{desk-fits, desk-most}
-use Rattle.question.specs.Examples as examples
-use Rattle.intake.specs.Kept.{keptOf, keptWith, keptIn, Holds}
-use Rattle.intake.specs.KeptLaws.{holds-next, kept-either}
-use Rattle.intake.specs.SameLineLaws as same
+use Rattle.desk_question.specs.Asked.{nameSize, questionIn, nameIn, fillIn, questionOk, asked, deskOf}
+use Rattle.desk_question.specs.AskedLaws as desk
+use Rattle.desk_question.specs.SizeLaws.{asked-sized}
+use Rattle.desk_question.specs.Line.{lineOf}
+use Rattle.desk_question.specs.LineLaws.{desk-fits, desk-most}
+use Rattle.desk_question.specs.Examples as examples
+use Rattle.desk_intake.specs.Kept.{keptOf, keptWith, spaceKept, Holds}
+use Rattle.desk_intake.specs.KeptLaws.{holds-next, kept-either}
+use Rattle.desk_intake.specs.SameLineLaws as same
 
 -- a question keeps its form: 353 octets, kind 51 hex, a Name of at most 256 octets, and zeros after the Name
 pub question-form : (q : List ℕ) → questionOk 20 q ≡ true
@@ -84,7 +84,7 @@ unfolding keptOf
 kept room l = refl
 
 pub kept-chunk : (space : List ℕ) (done : ℕ) (l chunk : List ℕ) → Holds space done l
-    → Holds (keptIn space done chunk) (length (keptWith space done chunk)) (l ++ chunk)
+    → Holds (spaceKept space done chunk) (length (keptWith space done chunk)) (l ++ chunk)
 kept-chunk space done l chunk h = holds-next space done l h chunk _ _ refl refl
 
 -- in a room for a question, the longest response and one octet more, what is kept is the input, or a beginning of it that is

@@ -1,7 +1,7 @@
 -- When 5 is given and when 3, in octets: which responses are of another type, and which don't fit.
 -- IsError, IsOtherType, IsBasic; other-type-exactly, unfit-exactly, too-long-exactly; two-given, three-given, four-given,
 -- five-given.
--- `formOf` is an element, its tag, its length and its content (element: Form); `judgedOf` is what response::judge answers
+-- `formOf` is an element, its tag, its length and its content (element: Form); `judgedOf` is what read_response::judge answers
 -- (response: Parts), `answerOf` what the check does (rules: Ruling), `der` the DER form of a reading (layout: Read).
 -- Which responses are basic, and which are errors, is in OneReading.
 -- Assumes nothing.
@@ -21,11 +21,11 @@ use Rattle.layout.specs.Format.{envelope}
 use Rattle.layout.specs.Limits.{BasicOk, FailureOk}
 use Rattle.layout.specs.Read.{der}
 use Rattle.layout.specs.Opened.{opened}
-use Rattle.spots.specs.ExpectLaws.{never}
-use Rattle.response.specs.Parts.{judgedOf}
-use Rattle.response.specs.OutcomeLaws as kinds
-use Rattle.response.specs.declared.Judged.{Judged}
-use Rattle.response.specs.declared.Judged.the-variants as judged
+use Rattle.read_content.specs.ExpectLaws.{never}
+use Rattle.read_response.specs.Parts.{judgedOf}
+use Rattle.read_response.specs.OutcomeLaws as kinds
+use Rattle.read_response.specs.declared.Judged.{Judged}
+use Rattle.read_response.specs.declared.Judged.the-variants as judged
 use Rattle.answer.specs.Verdict.{refused}
 use Rattle.rules.specs.declared.Question.{Question}
 use Rattle.rules.specs.Accepted.{InRange}
@@ -53,7 +53,7 @@ IsOtherType s =
 abbrev pub IsBasic : List ℕ → Type 0
 IsBasic s = (b : Basic) × BasicOk b × (s ≡ der (basic b))
 
--- ── what response::judge answers ──
+-- ── what read_response::judge answers ──
 
 -- the layout's envelope of status 0 is those octets
 success-form : (t c : List ℕ) → envelope .enc (success t c)

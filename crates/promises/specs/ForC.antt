@@ -1,23 +1,18 @@
--- What each function of include/desk.h answers, in document 01's terms.
+-- What the functions of include/desk.h that show a response answer, in document 01's terms.
 -- Shows; refusal-answers; nothing-shown, signed-answers, signature-answers, algorithm-answers, certificates-answers;
--- entry-answers, entry-shown; check-asks, check-answers, check-read; request-answers; slip-answers.
+-- entry-answers, entry-shown. The check, requests and slips are in PapersForC.
 -- A premise of the form `n ≡ ..` says what a function returns or leaves, as its contract tells (contracts: CFunctions); the claims
--- behind it are of the n returned, the places `from` and `len` and the buffer `left` as it is left. `Octets s` is what the type
--- of a lent slice says of it. The definitions under those premises are in desk_c: Places, Papers, and in question: Asked.
+-- behind it are of the n returned and the places `from` and `len`. `Octets s` is what the type of a lent slice says of it. The
+-- definitions under those premises are in desk_c: Places.
 -- Assumes nothing.
 use Prim.Native.Nat.{ℕ, _+_, _≤_, _<_}
 use native.Mathlib.Omega.{arith}
 use mathlib.Core.Logic.{_⊎_, ⊎-elim, _↔_}
 use mathlib.Core.Path.{_≡_, refl, ap, _∙_}
-use mathlib.Core.Bool.{true, false, cond}
-use mathlib.Core.List.{List, [], _∷_, _++_}
+use mathlib.Core.List.{List, [], _∷_}
 use mathlib.Core.Option.{none, some}
-use lib.Dec.{ltb}
 use lib.ListN.{length, take, drop}
-use borrow.Author.Tests.{lt-ltb, le-ltb}
 use Rattle.octets.specs.Octets.{Octets}
-use Rattle.octets.specs.Buffer.{putIn}
-use Rattle.octets.specs.BufferLaws.{put-in-short}
 use Rattle.codec.specs.Option.{optionEnc}
 use Rattle.codec.specs.Many.{forms}
 use Rattle.layout.specs.Reading.{Basic, basic}
@@ -25,35 +20,20 @@ use Rattle.layout.specs.Kinds.{freeSequence}
 use Rattle.layout.specs.Format.{algorithmIdentifier, singleResponse}
 use Rattle.layout.specs.Limits.{FailureOk}
 use Rattle.layout.specs.Read.{reads, reading}
-use Rattle.response.specs.Parts.{judgedOf}
-use Rattle.response.specs.Refusals.{refusalOf}
-use Rattle.response.specs.declared.Parts.{Parts}
-use Rattle.response.specs.declared.Span.{Span}
-use Rattle.response.specs.declared.Judged.{Judged}
-use Rattle.response.specs.declared.Judged.the-variants as judged
+use Rattle.read_response.specs.Parts.{judgedOf}
+use Rattle.read_response.specs.Refusals.{refusalOf}
+use Rattle.read_response.specs.declared.Parts.{Parts}
+use Rattle.read_response.specs.declared.Span.{Span}
+use Rattle.read_response.specs.declared.Judged.{Judged}
+use Rattle.read_response.specs.declared.Judged.the-variants as judged
+use Rattle.show.specs.PartsLaws as parts
 use Rattle.show.specs.Shown.{octetsIn, signedOf, signatureOf, entryOf}
 use Rattle.show.specs.declared.Entry.{Entry}
 use Rattle.show.specs.declared.Entry.the-variants as entry
-use Rattle.answer.specs.Card.{cardOk}
-use Rattle.answer.specs.Verdict.{refused}
-use Rattle.answer.specs.declared.Answer.{Answer}
-use Rattle.fields.specs.Field.{cardIn}
-use Rattle.fields.specs.OutputLaws.{first-written}
-use Rattle.fields.specs.Output.{outputIn}
-use Rattle.slip.specs.Slip.{slipOf, slipOk, readOf, Hashed}
-use Rattle.slip.specs.SlipLaws.{read-written}
-use Rattle.request.specs.Request.{requestOf}
-use Rattle.rules.specs.Ruling.{answerOf}
-use Rattle.question.specs.Asked.{questionIn, nameIn, questionOk, asked}
-use Rattle.question.specs.AskedLaws.{asked-kept, asked-broken}
-use Rattle.question.specs.FitsLaws.{fits-slip}
-use Rattle.question.specs.SizeLaws.{asked-sized, asked-most}
-use Rattle.walked.specs.Step.{partIn, partOf}
-use Rattle.desk_c.specs.Places.{signedIn, algorithmIn, signatureIn, certificatesIn, entryNumber, entrySpan}
+use Rattle.walk_rules.specs.Step.{partIn, partOf}
+use Rattle.desk_c.specs.Places.{signedSpan, algorithmIn, signatureSpan, certificatesIn, entryNumber, entrySpan}
 use Rattle.desk_c.specs.PlacesLaws as places
 use Rattle.desk_c.specs.EntryLaws as entries
-use Rattle.desk_c.specs.Papers.{slipNumber, requestSize, requestIn}
-use Rattle.desk_c.specs.PapersLaws as papers
 use Rattle.promises.specs.OneReading.{basic-exactly, error-exactly}
 use Rattle.promises.specs.Envelopes.{IsError, IsOtherType, IsBasic, other-type-exactly, unfit-exactly, too-long-exactly}
 
@@ -104,26 +84,26 @@ module _ (s : List ℕ) (o : Octets s) where
   -- desk_signed, desk_algorithm, desk_signature and desk_certificates return what desk_refusal does. With a number but 0 the
   -- part is empty, at 0
   pub nothing-shown : (refusalOf (judgedOf s) .number ≡ 0 → ⊥)
-      → (signedIn (judgedOf s) ≡ record { start = 0; len = 0 })
+      → (signedSpan (judgedOf s) ≡ record { start = 0; len = 0 })
       × (algorithmIn (judgedOf s) ≡ record { start = 0; len = 0 })
-      × (signatureIn (judgedOf s) ≡ record { start = 0; len = 0 })
+      × (signatureSpan (judgedOf s) ≡ record { start = 0; len = 0 })
       × (certificatesIn s (judgedOf s) ≡ record { start = 0; len = 0 })
   nothing-shown n =
       let i = entries.parts-none s n in
       (ap (λ (p : Parts). p .signed) i, ap (λ (p : Parts). p .algorithm) i, ap (λ (p : Parts). p .signature) i, entries.certificates-nothing s n)
 
   -- where the signed part and the signature are: what is shown is what show::signed_part and show::signature return
-  pub signed-answers : (from len : ℕ) → from ≡ signedIn (judgedOf s) .start → len ≡ signedIn (judgedOf s) .len → Shows s from len (signedOf s)
-  signed-answers from len i j = rw (i, j) (places.signed-octets s, places.signed-inside s o)
+  pub signed-answers : (from len : ℕ) → from ≡ signedSpan (judgedOf s) .start → len ≡ signedSpan (judgedOf s) .len → Shows s from len (signedOf s)
+  signed-answers from len i j = rw (i, j) (parts.signed-octets s, parts.signed-inside s o)
 
-  pub signature-answers : (from len : ℕ) → from ≡ signatureIn (judgedOf s) .start → len ≡ signatureIn (judgedOf s) .len → Shows s from len (signatureOf s)
-  signature-answers from len i j = rw (i, j) (places.signature-octets s, places.signature-inside s o)
+  pub signature-answers : (from len : ℕ) → from ≡ signatureSpan (judgedOf s) .start → len ≡ signatureSpan (judgedOf s) .len → Shows s from len (signatureOf s)
+  signature-answers from len i j = rw (i, j) (parts.signature-octets s, parts.signature-inside s o)
 
   -- of a response that reads as a basic one: the signature's algorithm identifier, header included
   pub algorithm-answers : (b : Basic) → length s ≤ 16384 → reading s ≡ reads (basic b)
       → (from len : ℕ) → from ≡ algorithmIn (judgedOf s) .start → len ≡ algorithmIn (judgedOf s) .len
       → Shows s from len (algorithmIdentifier .enc (b .algorithm))
-  algorithm-answers b le e from len i j = rw (i, j) (places.algorithm-octets s b o le e, places.algorithm-inside s o)
+  algorithm-answers b le e from len i j = rw (i, j) (places.algorithm-octets s b o le e, parts.algorithm-inside s o)
 
   -- and its certificates one after the other, each with its header; where there are none an empty part, at 0
   pub certificates-answers : (b : Basic) → length s ≤ 16384 → reading s ≡ reads (basic b)
@@ -173,58 +153,3 @@ module _ (s : List ℕ) (o : Octets s) (k n from len : ℕ) (i : n ≡ entryNumb
         let p = entries.entry-end s k b le e h in
         (f ∙ ap (λ (x : Span). x .start) p, l ∙ ap (λ (x : Span). x .len) p),
   )
-
--- ── desk_check ──
-
--- octets put at the start of a buffer with room
-first-put : (out new : List ℕ) → length new ≤ length out → putIn out 0 new ≡ new ++ drop (length new) out
-unfolding outputIn
-first-put out new h = first-written out new h
-
-module _ (question response slip left : List ℕ) (n : ℕ) (a : Answer) (answer : a ≡ asked question response)
-    (count : n ≡ cond (ltb (length slip) (length (slipOf (asked question response)))) 0 (length (slipOf (asked question response))))
-    (buffer : left ≡ putIn slip 0 (slipOf (asked question response))) where
-  -- the answer is the check's, to the question that the octets have for fields; 1 where they break the form
-  pub check-asks : (questionOk 20 question ≡ true → a ≡ answerOf (questionIn 20 question) (nameIn 20 question) response)
-      × (questionOk 20 question ≡ false → a ≡ refused 1 0)
-  check-asks = (λ k. answer ∙ asked-kept question response k, λ k. answer ∙ asked-broken question response k)
-
-  -- its slip has at most 87 octets; where the buffer has room n is their number, they come first, and the rest is unchanged;
-  -- where it has not, n is 0 and the buffer as it was
-  pub check-answers : (length (slipOf a) ≤ 87)
-      × (length (slipOf a) ≤ length slip → (n ≡ length (slipOf a)) × (left ≡ slipOf a ++ drop (length (slipOf a)) slip))
-      × (length slip < length (slipOf a) → (n ≡ 0) × (left ≡ slip))
-  check-answers = rw (answer, count, buffer) (
-    asked-most question response,
-    λ h. (rw (le-ltb (length slip) (length (slipOf (asked question response))) h), first-put slip (slipOf (asked question response)) h),
-    λ h. (rw (lt-ltb (length slip) (length (slipOf (asked question response))) h), put-in-short slip 0 (slipOf (asked question response)) (omega arith)),
-  )
-
-  -- and the slip is read back as the answer
-  pub check-read : Octets response → (slipOk a ≡ true) × (readOf 20 (slipOf a) ≡ a)
-  check-read o =
-      rw answer (
-        fits-slip question response o,
-        read-written (asked question response) (fits-slip question response o) 20 (λ c. asked-sized question response),
-      )
-
--- ── desk_request ──
-
--- for a card of 61 octets whose serial keeps the rule, and a buffer with room: the request's length, the request first, and the
--- rest unchanged; else 0, and the buffer as it was
-pub request-answers : (card out left : List ℕ) (n : ℕ) → n ≡ requestSize card (length out) → left ≡ requestIn card out
-    → ((length card ≡ 61 → ⊥) → (n ≡ 0) × (left ≡ out))
-    × (length card ≡ 61 → cardOk (cardIn 20 card) ≡ false → (n ≡ 0) × (left ≡ out))
-    × (length card ≡ 61 → cardOk (cardIn 20 card) ≡ true → length out < length (requestOf (cardIn 20 card)) → (n ≡ 0) × (left ≡ out))
-    × (length card ≡ 61 → cardOk (cardIn 20 card) ≡ true → length (requestOf (cardIn 20 card)) ≤ length out
-    → (n ≡ length (requestOf (cardIn 20 card))) × (left ≡ requestOf (cardIn 20 card) ++ drop (length (requestOf (cardIn 20 card))) out))
-request-answers card out left n i j =
-    rw (i, j) (papers.request-long card out, papers.request-broken card out, papers.request-short card out, papers.request-written card out)
-
--- ── desk_slip ──
-
--- 17 exactly where no answer that keeps the slip rules has these octets as its slip, else 0
-pub slip-answers : (s : List ℕ) → Octets s → (n : ℕ) → n ≡ slipNumber (readOf 20 s .verdict)
-    → (n ≡ 17 ↔ ((a : Answer) → slipOk a ≡ true → Hashed 20 a → slipOf a ≡ s → ⊥))
-    × (n ≡ 0 ↔ (a : Answer) × (slipOk a ≡ true) × Hashed 20 a × (slipOf a ≡ s))
-slip-answers s o n i = rw i (papers.slip-none s o, papers.slip-is s o)

@@ -7,13 +7,16 @@ pub mod OneCard
 pub mod Parts
 pub mod Shown
 pub mod Numbers
+pub mod NumbersOfCheck
 pub mod Buffers
+pub mod BuffersAt
 pub mod Told
 pub mod Requests
 pub mod Slips
 pub mod Walk
 pub mod Desk
 pub mod ForC
+pub mod PapersForC
 pub mod CacheForm
 pub mod CacheAsk
 pub mod CacheRefusals

@@ -1,5 +1,5 @@
 -- The marked examples of document 01, M1 to M12, as a list of claims, and the one theorem that each of them holds.
--- card; examples; marked. What a claim is, and what it is for one to hold, is in Claims.
+-- sampleCard; examples; marked. What a claim is, and what it is for one to hold, is in Claims.
 -- Assumes nothing.
 use Prim.Native.Nat.{ℕ}
 use mathlib.Core.Path.{_≡_, refl}
@@ -11,14 +11,14 @@ use Rattle.codec.specs.Many.{All}
 use Rattle.layout.specs.Opened.{opened}
 use Rattle.answer.specs.Verdict.{refused}
 use Rattle.answer.specs.declared.Card.{Card}
-use Rattle.matching.specs.CertForm.{cardForm}
+use Rattle.rule_matching.specs.CertForm.{cardForm}
 use Rattle.rules.specs.Examples.{checked}
 use Rattle.request.specs.Request.{requestForm}
 use Rattle.promises.specs.Claims.{Claim, isTime, noTime, isLength, noLength, isSerial, noSerial, gives, counts, request, holds}
 
 -- A.1 of source document 000: the hash of the issuer's name, the hash of its key, and a serial of 16 octets
-abbrev pub card : Card
-card = record {
+abbrev pub sampleCard : Card
+sampleCard = record {
   name =
       0xc0 ∷ 0xfe ∷ 0x02 ∷ 0x78 ∷ 0xfc ∷ 0x99 ∷ 0x18 ∷ 0x88 ∷ 0x91 ∷ 0xb3 ∷ 0xf2 ∷ 0x12 ∷ 0xe9 ∷ 0xc7 ∷ 0xe1 ∷ 0xb2
       ∷ 0x1a ∷ 0xb7 ∷ 0xbf ∷ 0xc0 ∷ [];
@@ -49,7 +49,7 @@ examples =
     ∷ (11, counts 1114909200 1115082000 0 1115082000 0)
     ∷ (11, counts 1114909200 1115082000 0 1115082001 16)
     ∷ (11, counts 1114909200 1115082000 1 1115082001 0)
-    ∷ (12, request card 83 (0x30 ∷ 0x51 ∷ 0x30 ∷ 0x4f ∷ 0x30 ∷ 0x4d ∷ 0x30 ∷ 0x4b ∷ 0x30 ∷ 0x49 ∷ []))
+    ∷ (12, request sampleCard 83 (0x30 ∷ 0x51 ∷ 0x30 ∷ 0x4f ∷ 0x30 ∷ 0x4d ∷ 0x30 ∷ 0x4b ∷ 0x30 ∷ 0x49 ∷ []))
     ∷ []
 
 -- whether each of some claims holds, by computing

@@ -1,13 +1,10 @@
--- Document 01's number and values for each case of each enum that a public function answers with.
--- Told, given, refusal, wrong; writtenTold, formedTold, outputTold; numberTold, timeTold, headerTold, stepTold, fitTold,
--- countTold, spotTold, codeTold, nameTold, insideTold, tailTold, viewTold, coverTold; judgedTold, entryTold,
--- freshnessTold, strangeTold, foundTold, openedTold; judged-told, freshness-told.
+-- Document 01's number and values for each case of each enum that a writer or a reader of a part answers with.
+-- Told, given, numberAlone, wrong; writtenTold, formedTold, outputTold; numberTold, timeTold, headerTold, stepTold, fitTold,
+-- countTold, spotTold, codeTold, nameTold, insideTold, tailTold, viewTold, coverTold.
 -- A place where a reader gave up is no value of the document: such a case has the number 3 and nothing more. Those of a
--- verdict are in answer: Verdict (kindOf, valuesOf, numberOf, statusOf), those of filing and asking in cache_rules:
--- Numbers. What the writers answer is in Buffers.
+-- response and of the check are in NumbersOfCheck. What the writers answer is in Buffers.
 -- Assumes nothing.
 use Prim.Native.Nat.{ℕ}
-use mathlib.Core.Path.{_≡_, refl}
 use mathlib.Core.Bool.{true, false}
 use mathlib.Core.List.{List, [], _∷_, _++_}
 use Rattle.octets.specs.declared.Number.{Number}
@@ -24,44 +21,30 @@ use Rattle.codec.specs.declared.Step.{Step}
 use Rattle.codec.specs.declared.Step.the-variants as step
 use Rattle.codec.specs.declared.Fit.{Fit}
 use Rattle.codec.specs.declared.Fit.the-variants as fit
-use Rattle.spots.specs.declared.Spot.{Spot}
-use Rattle.spots.specs.declared.Spot.the-variants as spot
-use Rattle.words.specs.declared.Code.{Code}
-use Rattle.words.specs.declared.Code.the-variants as code
-use Rattle.oids.specs.declared.Name.{Name}
-use Rattle.oids.specs.declared.Name.the-variants as name
-use Rattle.critical.specs.declared.Strange.{Strange}
-use Rattle.critical.specs.declared.Strange.the-variants as strange
-use Rattle.entry.specs.declared.Count.{Count}
-use Rattle.entry.specs.declared.Count.the-variants as count
-use Rattle.look.specs.declared.Why.{Why}
-use Rattle.look.specs.declared.Why.the-variants as why
-use Rattle.look.specs.declared.Standing.{Standing}
-use Rattle.look.specs.declared.Standing.the-variants as standing
-use Rattle.look.specs.declared.Until.{Until}
-use Rattle.look.specs.declared.Until.the-variants as until
-use Rattle.look.specs.declared.View.{View}
-use Rattle.envelope.specs.declared.Cover.{Cover}
-use Rattle.envelope.specs.declared.Cover.the-variants as cover
-use Rattle.pieces.specs.declared.Inside.{Inside}
-use Rattle.pieces.specs.declared.Inside.the-variants as inside
-use Rattle.pieces.specs.declared.Tail.{Tail}
-use Rattle.pieces.specs.declared.Tail.the-variants as tail
-use Rattle.response.specs.Refusals as response
-use Rattle.response.specs.declared.Span.{Span}
-use Rattle.response.specs.declared.Judged.{Judged}
-use Rattle.response.specs.declared.Judged.the-variants as judged
-use Rattle.show.specs.declared.Entry.{Entry}
-use Rattle.show.specs.declared.Entry.the-variants as entry
-use Rattle.freshness.specs.Fresh as freshness
-use Rattle.freshness.specs.declared.Freshness.{Freshness}
-use Rattle.freshness.specs.declared.Freshness.the-variants as fresh
+use Rattle.read_content.specs.declared.Spot.{Spot}
+use Rattle.read_content.specs.declared.Spot.the-variants as spot
+use Rattle.read_codes.specs.declared.Code.{Code}
+use Rattle.read_codes.specs.declared.Code.the-variants as code
+use Rattle.read_oids.specs.declared.Name.{Name}
+use Rattle.read_oids.specs.declared.Name.the-variants as name
+use Rattle.read_entry.specs.declared.Count.{Count}
+use Rattle.read_entry.specs.declared.Count.the-variants as count
+use Rattle.read_entry_values.specs.declared.Why.{Why}
+use Rattle.read_entry_values.specs.declared.Why.the-variants as why
+use Rattle.read_entry_values.specs.declared.Standing.{Standing}
+use Rattle.read_entry_values.specs.declared.Standing.the-variants as standing
+use Rattle.read_entry_values.specs.declared.Until.{Until}
+use Rattle.read_entry_values.specs.declared.Until.the-variants as until
+use Rattle.read_entry_values.specs.declared.View.{View}
+use Rattle.read_envelope.specs.declared.Cover.{Cover}
+use Rattle.read_envelope.specs.declared.Cover.the-variants as cover
+use Rattle.read_basic.specs.declared.Inside.{Inside}
+use Rattle.read_basic.specs.declared.Inside.the-variants as inside
+use Rattle.read_basic.specs.declared.Tail.{Tail}
+use Rattle.read_basic.specs.declared.Tail.the-variants as tail
 use Rattle.fields.specs.declared.Output.{Output}
 use Rattle.fields.specs.declared.Output.the-variants as output
-use Rattle.search.specs.declared.Found.{Found}
-use Rattle.search.specs.declared.Found.the-variants as found
-use Rattle.opened.specs.declared.Opened.{Opened}
-use Rattle.opened.specs.declared.Opened.the-variants as opened
+use Rattle.rule_search.specs.declared.Found.{Found}
 
 -- what an answer says in document 01's terms: the number of its refusal, 0 where there is none; the status that goes with
 -- 4, else 0; and its values, of which a refusal has none
@@ -74,29 +57,29 @@ pub record Told : Type 0 where
 abbrev pub given : List ℕ → Told
 given l = record { number = 0; status = 0; values = l }
 
-abbrev pub refusal : ℕ → Told
-refusal n = record { number = n; status = 0; values = [] }
+abbrev pub numberAlone : ℕ → Told
+numberAlone n = record { number = n; status = 0; values = [] }
 
 abbrev pub wrong : Told
-wrong = refusal 3
+wrong = numberAlone 3
 
 -- ── writers ──
 
 -- the place after what was written, or 18
 abbrev pub writtenTold : Written → Told
 writtenTold (written.Next n) = given (n ∷ [])
-writtenTold written.Short = refusal 18
+writtenTold written.Short = numberAlone 18
 
 -- the place after a header, or 18; a tag that no element may have doesn't fit
 abbrev pub formedTold : Formed → Told
 formedTold (formed.Next n) = given (n ∷ [])
-formedTold formed.Short = refusal 18
+formedTold formed.Short = numberAlone 18
 formedTold formed.NoTag = wrong
 
 -- how many octets were written, or the number of the refusal
 abbrev pub outputTold : Output → Told
 outputTold (output.Octets n) = given (n ∷ [])
-outputTold (output.Refused n) = refusal n
+outputTold (output.Refused n) = numberAlone n
 
 -- ── readers of octets ──
 
@@ -177,71 +160,5 @@ viewTold v = given (v .this ∷ (untilValues (v .until) ++ standingValues (v .st
 abbrev pub coverTold : Cover → Told
 coverTold (cover.Failed n) = record { number = 4; status = n; values = [] }
 coverTold (cover.Holds true len) = given (len ∷ [])
-coverTold (cover.Holds false len) = refusal 5
+coverTold (cover.Holds false len) = numberAlone 5
 coverTold (cover.Broken p) = wrong
-
--- ── the response and its entries ──
-
-abbrev pub spanValues : Span → List ℕ
-spanValues s = s .start ∷ s .len ∷ []
-
--- where the parts of a basic response are; 2; 3; 4 with the status; 5
-abbrev pub judgedTold : Judged → Told
-judgedTold (judged.Basic p) =
-    given (
-    spanValues (p .signed) ++ spanValues (p .responder) ++ spanValues (p .entries) ++ (p .count ∷ []) ++ spanValues (p .extensions)
-    ++ spanValues (p .algorithm) ++ spanValues (p .signature) ++ spanValues (p .certificates)
-    )
-judgedTold judged.TooLong = refusal 2
-judgedTold (judged.Unfit p) = wrong
-judgedTold (judged.Failed n) = record { number = 4; status = n; values = [] }
-judgedTold judged.OtherType = refusal 5
-
--- it is the refusal that response::refuse gives
-pub judged-told : (j : Judged) → (judgedTold j .number ≡ response.refusalOf j .number) × (judgedTold j .status ≡ response.refusalOf j .status)
-unfolding response.refusalOf
-judged-told (judged.Basic p) = (refl, refl)
-judged-told judged.TooLong = (refl, refl)
-judged-told (judged.Unfit p) = (refl, refl)
-judged-told (judged.Failed n) = (refl, refl)
-judged-told judged.OtherType = (refl, refl)
-
--- where an entry is; nothing, at the end; the refusal
-abbrev pub entryTold : Entry → Told
-entryTold (entry.At start len) = given (start ∷ len ∷ [])
-entryTold entry.End = given []
-entryTold (entry.Refused number status) = record { number = number; status = status; values = [] }
-
--- ── the check ──
-
--- that an answer counts, or 13, 14, 15, 16
-abbrev pub freshnessTold : Freshness → Told
-freshnessTold fresh.Fresh = given []
-freshnessTold fresh.Endless = refusal 13
-freshnessTold (fresh.Reversed n) = refusal 14
-freshnessTold (fresh.Early n) = refusal 15
-freshnessTold (fresh.Late n) = refusal 16
-
--- it is the number that the table of refusals has
-pub freshness-told : (f : Freshness) → freshnessTold f .number ≡ freshness.refusalOf f
-freshness-told fresh.Fresh = refl
-freshness-told fresh.Endless = refl
-freshness-told (fresh.Reversed n) = refl
-freshness-told (fresh.Early n) = refl
-freshness-told (fresh.Late n) = refl
-
--- a critical extension that is not understood: 9 in the response and 12 in an entry, as the row says
-abbrev pub strangeTold : ℕ → Strange → Told
-strangeTold row strange.None = given []
-strangeTold row (strange.At p) = refusal row
-
--- the only entry for a card: its ordinal, and where it is; 10 where there is none, 11 where there are two
-abbrev pub foundTold : Found → Told
-foundTold (found.None n) = refusal 10
-foundTold (found.One ordinal start len) = given (ordinal ∷ start ∷ len ∷ [])
-foundTold (found.Two first second) = refusal 11
-
--- where the entries of a response that is not refused are; the refusal
-abbrev pub openedTold : Opened → Told
-openedTold (opened.Refused number status) = record { number = number; status = status; values = [] }
-openedTold (opened.Clear start len) = given (start ∷ len ∷ [])

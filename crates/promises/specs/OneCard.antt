@@ -14,9 +14,9 @@ use Rattle.octets.specs.Number.{valueOf}
 use Rattle.codec.specs.Tree.{prim}
 use Rattle.layout.specs.Reading.{CertId, Entry, Basic, basic}
 use Rattle.layout.specs.Read.{reads, reading}
+use Rattle.layout.specs.Sha1.{sha1}
 use Rattle.answer.specs.Card.{serialIn}
 use Rattle.answer.specs.declared.Card.{Card}
-use Rattle.matching.specs.Match.{sha1}
 use Rattle.rules.specs.declared.Question.{Question}
 use Rattle.rules.specs.Ruling.{said, answerOf}
 use Rattle.rules.specs.Accepted.{Accepted, NoRefusal}

@@ -2,7 +2,7 @@
 -- First half: read-only-form, one-string, one-reading. Second half: every-form-read, exactly-one; error-form.
 -- What the reader of the code accepts: basic-exactly, error-exactly.
 -- `reading` is what a list of octets says, `der` the DER form of a reading (layout: Read), `Within` the limits by a
--- reading's own fields (layout: Limits), `judgedOf` what response::judge answers (response: Parts).
+-- reading's own fields (layout: Limits), `judgedOf` what read_response::judge answers (response: Parts).
 -- Assumes nothing.
 use Prim.Native.Nat.{ℕ, _≤_}
 use native.Mathlib.Omega.{arith}
@@ -16,11 +16,11 @@ use Rattle.layout.specs.Limits.{Within, BasicOk, FailureOk}
 use Rattle.layout.specs.Read.{der, reads, reading}
 use Rattle.layout.specs.Theorem.{sound, complete, unique, der-octets}
 use Rattle.layout.specs.Opened.{opened}
-use Rattle.response.specs.Parts.{judgedOf, partsIn}
-use Rattle.response.specs.JudgedLaws.{judged-basic, basic-judged}
-use Rattle.response.specs.OutcomeLaws.{failed-judged}
-use Rattle.response.specs.declared.Parts.{Parts}
-use Rattle.response.specs.declared.Judged.the-variants as judged
+use Rattle.read_response.specs.Parts.{judgedOf, partsIn}
+use Rattle.read_response.specs.JudgedLaws.{judged-basic, basic-judged}
+use Rattle.read_response.specs.OutcomeLaws.{failed-judged}
+use Rattle.read_response.specs.declared.Parts.{Parts}
+use Rattle.read_response.specs.declared.Judged.the-variants as judged
 
 -- ── the first half: octets with a reading are its DER form ──
 
@@ -54,7 +54,7 @@ error-form n = refl
 
 -- ── the same of the code's reader ──
 
--- response::judge calls a response basic exactly when it is the DER form of a basic reading within the limits, of at
+-- read_response::judge calls a response basic exactly when it is the DER form of a basic reading within the limits, of at
 -- most 16,384 octets
 pub basic-exactly : (s : List ℕ) → Octets s
     → ((t : Parts) × (judgedOf s ≡ judged.Basic t))

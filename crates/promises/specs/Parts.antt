@@ -1,6 +1,6 @@
 -- Where the parts of a basic response are: what is judged basic has its parts where the forms of its reading stand.
 -- stands-in-full; parts-stand. What is shown of them is in Shown.
--- `judgedOf` is what response::judge answers, with a place for each part (response: Parts); `Stands s at x`: the octets of s
+-- `judgedOf` is what read_response::judge answers, with a place for each part (response: Parts); `Stands s at x`: the octets of s
 -- at the place `at` are x, and end inside s (response: Stands); NAME `.enc` is the form of a part (layout: Format), `forms`
 -- forms one after the other, `optionEnc` a form or nothing (codec: Many, Option).
 -- Assumes nothing.
@@ -15,13 +15,13 @@ use Rattle.codec.specs.Many.{forms}
 use Rattle.layout.specs.Reading.{Basic, basic}
 use Rattle.layout.specs.Format.{algorithmIdentifier, extensions, singleResponse, responderId, responseData, certificates}
 use Rattle.layout.specs.Read.{reads, reading}
-use Rattle.response.specs.Parts.{partsFrom, judgedOf, partsIn}
-use Rattle.response.specs.Stands.{Stands}
-use Rattle.response.specs.PartsLaws as parts
-use Rattle.response.specs.JudgedLaws.{judged-basic}
-use Rattle.response.specs.declared.Span.{Span}
-use Rattle.response.specs.declared.Parts.{Parts}
-use Rattle.response.specs.declared.Judged.the-variants as judged
+use Rattle.read_response.specs.Parts.{partsFrom, judgedOf, partsIn}
+use Rattle.read_response.specs.Stands.{Stands}
+use Rattle.read_response.specs.PartsLaws as parts
+use Rattle.read_response.specs.JudgedLaws.{judged-basic}
+use Rattle.read_response.specs.declared.Span.{Span}
+use Rattle.read_response.specs.declared.Parts.{Parts}
+use Rattle.read_response.specs.declared.Judged.the-variants as judged
 
 -- octets stand at a place: from its start on, as many as its length, they are these, and they end inside the response
 pub stands-in-full : (s : List ℕ) (at : Span) (x : List ℕ)

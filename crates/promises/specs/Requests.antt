@@ -14,8 +14,8 @@ use Rattle.codec.specs.Codec.{read}
 use Rattle.layout.specs.Reading.{CertId}
 use Rattle.answer.specs.Card.{serialIn, cardOk}
 use Rattle.answer.specs.declared.Card.{Card}
-use Rattle.matching.specs.Match.{isFor}
-use Rattle.matching.specs.CertForm.{cardForm}
+use Rattle.rule_matching.specs.Match.{isFor}
+use Rattle.rule_matching.specs.CertForm.{cardForm}
 use Rattle.fields.specs.Output.{outputOf, outputIn}
 use Rattle.fields.specs.OutputLaws.{output-refused, output-short, output-written, kept-refused, kept-short, first-written}
 use Rattle.fields.specs.declared.Output.the-variants as output

@@ -12,14 +12,14 @@ use Rattle.element.specs.Form.{formOf}
 use Rattle.layout.specs.Reading.{Basic, basic}
 use Rattle.layout.specs.Format.{signedBody, responseData, signatureBits}
 use Rattle.layout.specs.Read.{reads, reading}
-use Rattle.response.specs.Parts.{judgedOf, partsIn}
-use Rattle.response.specs.Stands.{Stands}
-use Rattle.response.specs.PartsLaws.{signed-stands, signature-stands}
+use Rattle.read_response.specs.Parts.{judgedOf, partsIn}
+use Rattle.read_response.specs.Stands.{Stands}
+use Rattle.read_response.specs.PartsLaws.{signed-stands, signature-stands}
 use Rattle.show.specs.Shown.{signedIn, signedOf, signatureIn, signatureOf}
 use Rattle.show.specs.ShownLaws.{signed-shown, signature-shown}
-use Rattle.response.specs.declared.Parts.{Parts}
-use Rattle.response.specs.declared.Judged.{Judged}
-use Rattle.response.specs.declared.Judged.the-variants as judged
+use Rattle.read_response.specs.declared.Parts.{Parts}
+use Rattle.read_response.specs.declared.Judged.{Judged}
+use Rattle.read_response.specs.declared.Judged.the-variants as judged
 
 module _ (s : List ℕ) (b : Basic) (o : Octets s) (le : length s ≤ 16384) (e : reading s ≡ reads (basic b)) where
   -- of a response that reads as a basic one, the signed part that is shown is its form, header included, and those are

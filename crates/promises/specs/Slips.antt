@@ -22,7 +22,7 @@ use Rattle.answer.specs.declared.Answer.{Answer}
 use Rattle.fields.specs.Output.{outputOf, outputIn}
 use Rattle.fields.specs.OutputLaws.{output-refused, output-short, output-written, kept-refused, kept-short, first-written}
 use Rattle.fields.specs.declared.Output.the-variants as output
-use Rattle.slip.specs.Examples.{shown}
+use Rattle.slip.specs.Examples.{slipComputes}
 use Rattle.slip.specs.Table.{sizeOf}
 use Rattle.slip.specs.Slip.{slipOf, slipOk, slipRefusal, readOf, Hashed}
 use Rattle.slip.specs.SlipLaws as slip
@@ -32,24 +32,24 @@ module _ (card : Card) (this next : ℕ) where
   -- 01 good and 03 unknown: both hashes, the serial's length, the serial in 20 octets, thisUpdate 8, nextUpdate 8
   pub good-slip : slipOf (record { verdict = Good this next; card = card })
       ≡ 1 ∷ flatten (card .name ∷ card .key ∷ octetsOf 1 (card .size) ∷ card .serial ∷ octetsOf 8 this ∷ octetsOf 8 next ∷ [])
-  unfolding shown
+  unfolding slipComputes
   good-slip = simp append-assoc
 
   pub unknown-slip : slipOf (record { verdict = Unknown this next; card = card })
       ≡ 3 ∷ flatten (card .name ∷ card .key ∷ octetsOf 1 (card .size) ∷ card .serial ∷ octetsOf 8 this ∷ octetsOf 8 next ∷ [])
-  unfolding shown
+  unfolding slipComputes
   unknown-slip = simp append-assoc
 
   -- 02 revoked: the same, revocationTime 8, reason 1, FF if absent
   pub revoked-slip : (at : ℕ) (reason : Reason) → slipOf (record { verdict = Revoked this next at reason; card = card })
       ≡ 2 ∷ flatten (card .name ∷ card .key ∷ octetsOf 1 (card .size) ∷ card .serial ∷ octetsOf 8 this ∷ octetsOf 8 next ∷ octetsOf 8 at ∷ octetsOf 1 (reasonOf reason) ∷ [])
-  unfolding shown
+  unfolding slipComputes
   revoked-slip at reason = simp append-assoc
 
   -- 04 refusal: number, status
   pub refusal-slip : (number status : ℕ) → slipOf (record { verdict = Refused number status; card = card })
       ≡ 4 ∷ flatten (octetsOf 1 number ∷ octetsOf 1 status ∷ [])
-  unfolding shown
+  unfolding slipComputes
   refusal-slip number status = refl
 
 -- ── written and read ──
@@ -71,7 +71,7 @@ pub slip-size : (a : Answer) → Hashed 20 a → length (slipOf a) ≡ sizeOf 20
 slip-size = slip.slip-length 20
 
 pub sizes : (sizeOf 20 1 ≡ 78) × (sizeOf 20 2 ≡ 87) × (sizeOf 20 3 ≡ 78) × (sizeOf 20 4 ≡ 3)
-unfolding shown sizeOf
+unfolding slipComputes sizeOf
 sizes = (refl, refl, refl, refl)
 
 -- ── the writer, into a lent buffer ──

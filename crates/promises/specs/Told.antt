@@ -1,8 +1,8 @@
 -- What the functions that answer with an enum say, by document 01's numbers (Numbers): the entries one by one, the search for a
 -- card's entry, and the response judged for a question.
 -- entry-told; found-told; opened-told. The response judged alone is in ForC, times are in Rows, the writers in Buffers.
--- `entryOf` is what show::entry_at answers (show: Shown), `foundOf` what search::search answers of entries that are read, and
--- `forCard` the entries for a card, in order (search: Search), `openedOf` what opened::open answers (opened: Opened).
+-- `entryOf` is what show::entry_at answers (show: Shown), `foundOf` what rule_search::search answers of entries that are read, and
+-- `forCard` the entries for a card, in order (search: Search), `openedOf` what rule_response::open answers (opened: Opened).
 -- Assumes nothing.
 use Prim.Native.Nat.{ℕ}
 use native.Mathlib.Omega.{arith}
@@ -12,30 +12,31 @@ use mathlib.Core.List.{List, [], _∷_}
 use Rattle.octets.specs.Octets.{Octets}
 use Rattle.layout.specs.Reading as layout
 use Rattle.layout.specs.Limits.{HashOk}
-use Rattle.spots.specs.ExpectLaws.{never}
-use Rattle.response.specs.Parts.{judgedOf}
-use Rattle.response.specs.Refusals.{refusalOf}
+use Rattle.read_content.specs.ExpectLaws.{never}
+use Rattle.read_response.specs.Parts.{judgedOf}
+use Rattle.read_response.specs.Refusals.{refusalOf}
 use Rattle.show.specs.Shown.{entryOf}
 use Rattle.show.specs.declared.Entry.{Entry}
 use Rattle.show.specs.declared.Entry.the-variants as entry
 use Rattle.answer.specs.Verdict.{refused}
 use Rattle.answer.specs.declared.Card.{Card}
-use Rattle.search.specs.Search.{foundOf, forCard}
-use Rattle.search.specs.FoundLaws.{found-none, found-one, found-two}
-use Rattle.search.specs.declared.Found.{Found}
-use Rattle.search.specs.declared.Found.the-variants as found
+use Rattle.rule_search.specs.Search.{foundOf, forCard}
+use Rattle.rule_search.specs.FoundLaws.{found-none, found-one, found-two}
+use Rattle.rule_search.specs.declared.Found.{Found}
+use Rattle.rule_search.specs.declared.Found.the-variants as found
 use Rattle.rules.specs.declared.Question.{Question}
 use Rattle.rules.specs.Accepted.{InRange}
 use Rattle.rules.specs.AcceptedLaws.{range-exactly}
 use Rattle.rules.specs.Ruling.{answerOf}
-use Rattle.opened.specs.Opened.{openedOf}
-use Rattle.opened.specs.declared.Opened.{Opened}
-use Rattle.opened.specs.declared.Opened.the-variants as opened
-use Rattle.ruling.specs.CardRuled.{openedRuled}
-use Rattle.ruling.specs.CheckLaws.{check-by-parts}
+use Rattle.rule_response.specs.Opened.{openedOf}
+use Rattle.rule_response.specs.declared.Opened.{Opened}
+use Rattle.rule_response.specs.declared.Opened.the-variants as opened
+use Rattle.rule_check.specs.CardRuled.{openedRuled}
+use Rattle.rule_check.specs.CheckLaws.{check-by-parts}
 use Rattle.desk_c.specs.Places.{entryNumber}
 use Rattle.desk_c.specs.EntryLaws.{entry-number}
-use Rattle.promises.specs.Numbers.{Told, entryTold, foundTold, openedTold}
+use Rattle.promises.specs.Numbers.{Told}
+use Rattle.promises.specs.NumbersOfCheck.{entryTold, foundTold, openedTold}
 
 -- show::entry_at, at every ordinal: the number is the response's refusal, 0 where it has none
 pub entry-told : (s : List ℕ) (k : ℕ) → entryTold (entryOf s k) .number ≡ refusalOf (judgedOf s) .number
@@ -47,7 +48,7 @@ entry-told s k = same (entryOf s k) ∙ entry-number s k
     same entry.End = refl
     same (entry.Refused number status) = refl
 
--- search::search: 10 exactly where no entry is for the card, 0 exactly where one is, 11 exactly where two or more are
+-- rule_search::search: 10 exactly where no entry is for the card, 0 exactly where one is, 11 exactly where two or more are
 pub found-told : (card : Card) (l : List layout.Entry) (n : ℕ) → n ≡ foundTold (foundOf card l) .number
     → (n ≡ 10 ↔ forCard card l ≡ [])
     × (n ≡ 0 ↔ (e : layout.Entry) × (forCard card l ≡ e ∷ []))
@@ -77,7 +78,7 @@ found-told card l n i = rw i (go (foundOf card l) refl)
           (λ e. (x, y, r, p), λ e. refl),
         )
 
--- opened::open, for a question in range whose card has hashes and a serial of octets: a number that it gives is the check's
+-- rule_response::open, for a question in range whose card has hashes and a serial of octets: a number that it gives is the check's
 -- answer, and the status goes with it
 pub opened-told : (q : Question) (name s : List ℕ) → InRange q name → Octets s → HashOk (q .card .name) → HashOk (q .card .key) → Octets (q .card .serial)
     → (told : Told) → told ≡ openedTold (openedOf q name s) → (told .number ≡ 0 → ⊥) → answerOf q name s ≡ refused (told .number) (told .status)

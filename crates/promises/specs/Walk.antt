@@ -14,16 +14,16 @@ use Rattle.codec.specs.Many.{forms}
 use Rattle.layout.specs.Reading.{Basic, basic}
 use Rattle.layout.specs.Format.{singleResponse}
 use Rattle.layout.specs.Read.{reads, reading}
-use Rattle.response.specs.Parts.{judgedOf, partsIn}
-use Rattle.response.specs.Refusals.{refusalOf}
-use Rattle.show.specs.Shown.{octetsIn, refused}
-use Rattle.response.specs.declared.Parts.{Parts}
-use Rattle.response.specs.declared.Judged.{Judged}
-use Rattle.response.specs.declared.Judged.the-variants as judged
+use Rattle.read_response.specs.Parts.{judgedOf, partsIn}
+use Rattle.read_response.specs.Refusals.{refusalOf}
+use Rattle.show.specs.Shown.{octetsIn, refusedEntry}
+use Rattle.read_response.specs.declared.Parts.{Parts}
+use Rattle.read_response.specs.declared.Judged.{Judged}
+use Rattle.read_response.specs.declared.Judged.the-variants as judged
 use Rattle.show.specs.declared.Entry.the-variants as entry
-use Rattle.walked.specs.Walked.{startOf, sayOf, handOf, movedOf}
-use Rattle.walked.specs.Handed.{at, handed, after}
-use Rattle.walked.specs.Theorem as walk
+use Rattle.walk_rules.specs.Walked.{startOf, sayOf, handOf, movedOf}
+use Rattle.walk_rules.specs.Handed.{at, handed, afterSteps}
+use Rattle.walk_rules.specs.Theorem as walk
 
 -- ── a lent response r that reads as a basic one ──
 module _ (r : RefT (List ℕ)) (b : Basic) (o : Octets (now r)) (le : length (now r) ≤ 16384) (e : reading (now r) ≡ reads (basic b)) where
@@ -32,7 +32,7 @@ module _ (r : RefT (List ℕ)) (b : Basic) (o : Octets (now r)) (le : length (no
   each-once = walk.once-in-order r b o le e
 
   -- and the place counts them
-  pub place-counts : (n : ℕ) → n ≤ length (b .signed .entries) → after n (startOf r) ≡ at r n
+  pub place-counts : (n : ℕ) → n ≤ length (b .signed .entries) → afterSteps n (startOf r) ≡ at r n
   place-counts = walk.place-counts r b o le e
 
   -- a place at or past the number of entries is the end: a step there says so and hands out nothing, and the place stays
@@ -42,7 +42,7 @@ module _ (r : RefT (List ℕ)) (b : Basic) (o : Octets (now r)) (le : length (no
 
   -- so after as many steps as there are entries, or more, the place is their number, and the next step says the end
   pub end-for-ever : (n : ℕ) → length (b .signed .entries) ≤ n
-      → (after n (startOf r) ≡ at r (length (b .signed .entries))) × (sayOf (after n (startOf r)) ≡ entry.End)
+      → (afterSteps n (startOf r) ≡ at r (length (b .signed .entries))) × (sayOf (afterSteps n (startOf r)) ≡ entry.End)
   end-for-ever = walk.end-for-ever r b o le e
 
   -- what was handed out then is, one after the other, the response's own octets where its entries are
@@ -57,9 +57,9 @@ module _ (r : RefT (List ℕ)) (j : Judged) (e : judgedOf (now r) ≡ j) (other 
   refusal-number = walk.refusal-number r j e other
 
   -- every step, from any place, says that refusal and hands out nothing, and the place stays
-  pub refusal-said : (k : ℕ) → (sayOf (at r k) ≡ refused j) × (handOf (at r k) ≡ []) × (movedOf (at r k) ≡ at r k)
+  pub refusal-said : (k : ℕ) → (sayOf (at r k) ≡ refusedEntry j) × (handOf (at r k) ≡ []) × (movedOf (at r k) ≡ at r k)
   refusal-said k = let s = walk.refusal-stays r j e other k in (s .says, s .empty, s .stays)
 
   -- so that however many steps hand out nothing
-  pub refusal-for-ever : (n k : ℕ) → (after n (at r k) ≡ at r k) × (handed n (at r k) ≡ [])
+  pub refusal-for-ever : (n k : ℕ) → (afterSteps n (at r k) ≡ at r k) × (handed n (at r k) ≡ [])
   refusal-for-ever n k = (walk.refusal-for-ever r j e other n k, walk.refusal-hands-none r j e other n k)

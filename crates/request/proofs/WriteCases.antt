@@ -1,7 +1,7 @@
 -- The cases of the functions that write a request: writes in a row are one, and so are two that overlap.
 -- front-in; hashes-in; first-taken, over-in; serial-in; request-in.
 -- Assumes nothing.
-use Prim.Native.Nat.{ℕ, _+_, _-_, _≤_, _<_}
+use Prim.Native.Nat.{ℕ, _+_, _-_, _≤_}
 use native.Mathlib.Omega.{arith}
 use mathlib.Core.Path.{_≡_, refl, sym, ap, ap₂, _∙_}
 use mathlib.Core.List.{List, [], _∷_, _++_}
@@ -11,8 +11,8 @@ use Rattle.octets.specs.Buffer.{splice, putIn}
 use Rattle.octets.specs.BufferLaws.{splice-length, splice-take, splice-drop, splice-splice, put-in-room, put-in-length}
 use Rattle.element.specs.LengthLaws.{length-short}
 use Rattle.element.specs.Form.{formOf}
-use Rattle.matching.specs.CertForm.{nullHead}
-use Rattle.request.specs.Heads.{element-length, headsForm, frontForm, heads-is}
+use Rattle.layout.specs.Sha1.{nullHead}
+use Rattle.request.specs.Heads.{element-length, frontForm, heads-is}
 use Rattle.request.specs.Request.{requestForm}
 use Rattle.request.specs.FormLaws.{form-parts}
 

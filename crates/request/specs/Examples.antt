@@ -9,7 +9,7 @@ use Rattle.element.specs.Form.{formOf}
 use Rattle.content.specs.Serial.{leadOk, serialOk}
 use Rattle.answer.specs.Card.{allZero, fieldOk}
 use Rattle.answer.specs.declared.Card.{Card}
-use Rattle.matching.specs.CertForm.{cardForm}
+use Rattle.rule_matching.specs.CertForm.{cardForm}
 use Rattle.request.specs.Request.{requestForm, requestOf, requestRefusal}
 
 -- A.1's hash of the issuer's name, hash of its key, and serial

@@ -17,12 +17,12 @@ use Rattle.content.specs.SerialLaws.{serial-sound, serial-most}
 use Rattle.codec.specs.Codec.{read}
 use Rattle.layout.specs.Reading.{Algorithm}
 use Rattle.layout.specs.Limits.{AlgorithmOk, HashOk}
-use Rattle.layout.specs.PartLimits.{cert-limits}
+use Rattle.layout.specs.PartLimitsLaws.{cert-limits}
 use Rattle.layout.specs.Kinds as kinds
 use Rattle.layout.specs.EntryFormat.{algorithmIdentifier, certBody, certId}
-use Rattle.matching.specs.CertForm.{cardForm}
+use Rattle.rule_matching.specs.CertForm.{cardForm}
 use Rattle.request.specs.Request.{requestForm}
-use Rattle.request.specs.RequestFormat.{single, requestList, tbsRequest, ocspRequest, certWith}
+use Rattle.request.specs.RequestFormat.{singleRequest, requestList, tbsRequest, ocspRequest, certWith}
 use Rattle.request.specs.Heads.{element-length, headsForm, frontForm, heads-form}
 
 module _ (head name key serial : List ℕ) (s : length head + length name + length key + length serial ≤ 113) where
@@ -91,13 +91,13 @@ module _ (a : Algorithm) (name key serial : List ℕ) (h : AlgorithmOk a) (n : H
     (o : Octets serial) (q : serialOk serial ≡ true) where
   -- the request is the form of its CertID in the layout
   pub with-form : requestForm (algorithmIdentifier .enc a) name key serial ≡ ocspRequest .enc (certWith a name key serial)
-  unfolding requestForm ocspRequest tbsRequest requestList single certId certBody kinds.hash kinds.serial cardForm
+  unfolding requestForm ocspRequest tbsRequest requestList singleRequest certId certBody kinds.hash kinds.serial cardForm
   with-form =
       ap (λ (s : List ℕ). requestForm (algorithmIdentifier .enc a) name key s) (serial-sound serial o q .1)
 
   -- which is within the limits
   with-ok : ocspRequest .ok (certWith a name key serial)
-  unfolding ocspRequest tbsRequest requestList single
+  unfolding ocspRequest tbsRequest requestList singleRequest
   with-ok = cert-limits (certWith a name key serial) .1 record { algorithm = h; nameHash = n; keyHash = k; serial = serial-sound serial o q .0 }
 
   -- and of no great length

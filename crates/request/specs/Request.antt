@@ -10,9 +10,10 @@ use mathlib.Core.List.{List}
 use lib.ListN.{length}
 use Rattle.octets.specs.Octets.{Octets}
 use Rattle.element.specs.Form.{formOf}
+use Rattle.layout.specs.Sha1.{nullHead}
 use Rattle.answer.specs.Card.{serialIn, cardOk}
 use Rattle.answer.specs.declared.Card.{Card}
-use Rattle.matching.specs.CertForm.{cardForm, nullHead}
+use Rattle.rule_matching.specs.CertForm.{cardForm}
 
 -- four sequences, each holding only the next, the fourth holding one CertID: an algorithm identifier, both hashes, the serial
 unfoldable pub requestForm : List ℕ → List ℕ → List ℕ → List ℕ → List ℕ

@@ -1,6 +1,6 @@
 -- The layout of a request, as codecs (source document 002, section 4.1.1), with what source document 000, 2.1, leaves
 -- of it: no signature, no requestor's name, one Request, no extensions. The version has a default and so is not written.
--- single, requestList, tbsRequest, ocspRequest; certWith, certOf. Their laws are in FormLaws and RequestLaws.
+-- singleRequest, requestList, tbsRequest, ocspRequest; certWith, certOf. Their laws are in FormLaws and RequestLaws.
 -- What they read is a CertID, as in the layout of a response.
 -- Assumes nothing.
 use Prim.Native.Nat.{ℕ}
@@ -11,18 +11,18 @@ use Rattle.codec.specs.Sequence.{only}
 use Rattle.layout.specs.Reading.{Algorithm, CertId}
 use Rattle.layout.specs.Kinds.{sequence}
 use Rattle.layout.specs.EntryFormat.{certId}
+use Rattle.layout.specs.Sha1.{sha1}
 use Rattle.answer.specs.Card.{serialIn}
 use Rattle.answer.specs.declared.Card.{Card}
-use Rattle.matching.specs.Match.{sha1}
-use Rattle.matching.specs.Known.{nullOf}
+use Rattle.rule_matching.specs.Known.{nullOf}
 
 -- Request ::= SEQUENCE { reqCert CertID }
-unfoldable pub single : Element CertId
-single = sequence (only certId)
+unfoldable pub singleRequest : Element CertId
+singleRequest = sequence (only certId)
 
 -- requestList ::= SEQUENCE OF Request, one
 unfoldable pub requestList : Element CertId
-requestList = sequence (only single)
+requestList = sequence (only singleRequest)
 
 -- TBSRequest ::= SEQUENCE { requestList }
 unfoldable pub tbsRequest : Element CertId

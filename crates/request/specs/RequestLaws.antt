@@ -24,14 +24,14 @@ use Rattle.layout.specs.Reading.{CertId}
 use Rattle.layout.specs.Limits.{AlgorithmOk}
 use Rattle.layout.specs.Kinds as kinds
 use Rattle.layout.specs.EntryFormat.{algorithmBody, algorithmIdentifier}
+use Rattle.layout.specs.Sha1.{sha1, nullHead}
 use Rattle.answer.specs.Card.{serialIn, cardOk}
 use Rattle.answer.specs.CardLaws.{field-exactly, field-same}
 use Rattle.answer.specs.declared.Card.{Card}
-use Rattle.matching.specs.Match.{sha1, isSha1, isFor}
-use Rattle.matching.specs.Matched.{match-exactly}
-use Rattle.matching.specs.MatchLaws.{hash-twenty, match-unique}
-use Rattle.matching.specs.Known.{nullOf, knows-sha1}
-use Rattle.matching.specs.CertForm.{nullHead}
+use Rattle.rule_matching.specs.Match.{isSha1, isFor}
+use Rattle.rule_matching.specs.Matched.{match-exactly}
+use Rattle.rule_matching.specs.MatchLaws.{hash-twenty, match-unique}
+use Rattle.rule_matching.specs.Known.{nullOf, knows-sha1}
 use Rattle.request.specs.Request.{requestOf, Typed}
 use Rattle.request.specs.RequestFormat.{ocspRequest, certOf}
 use Rattle.request.specs.FormLaws.{form-length, with-form, with-read}

@@ -5,7 +5,7 @@ ghost use Prim.Native.Nat.{_+_, _≤_};
 ghost use lib.ListN.{length};
 ghost use Rattle.octets.specs.Buffer.{putIn};
 ghost use Rattle.element.specs.Form.{formOf};
-ghost use Rattle.matching.specs.CertForm.{nullHead};
+ghost use Rattle.layout.specs.Sha1.{nullHead};
 ghost use Rattle.request.specs.Heads.{frontForm};
 
 // Writes what stands before the name hash: the headers of five sequences, the algorithm identifier, and

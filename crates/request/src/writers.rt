@@ -6,8 +6,8 @@ ghost use mathlib.Core.Path.{_≡_};
 ghost use Prim.Native.Nat.{_+_, _≤_};
 ghost use lib.ListN.{length};
 ghost use Rattle.octets.specs.Buffer.{putIn};
+ghost use Rattle.layout.specs.Sha1.{nullHead};
 ghost use Rattle.fields.specs.Output.{outputOf, outputIn};
-ghost use Rattle.matching.specs.CertForm.{nullHead};
 ghost use Rattle.request.specs.Request.{requestForm, requestOf, requestRefusal};
 
 // Writes the request for both hashes and the serial at the start.

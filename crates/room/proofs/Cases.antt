@@ -1,4 +1,4 @@
--- What the program knows of its answer. What it knows of its reading is in crate intake (ReadLaws).
+-- What the program knows of its answer. What it knows of its reading is in crate desk_intake (ReadLaws).
 -- answers-end, answers-more, answers-failed, inside; line-counted, cache-counted.
 -- Assumes nothing.
 use Prim.Native.Nat.{ℕ, _≤_}
@@ -13,14 +13,14 @@ use Rattle.octets.specs.Octets.{Octets}
 use Rattle.octets.specs.OctetsLaws.{octets-from, octets-take}
 use Rattle.octets.specs.Buffer.{putIn}
 use Rattle.hex.specs.Hex.{hexLine}
-use Rattle.intake.specs.Kept.{Holds}
-use Rattle.intake.specs.Read.{ReadAs}
-use Rattle.intake.specs.declared.Input.{Input}
-use Rattle.intake.specs.declared.Input.the-variants.{More, End, Failed}
+use Rattle.desk_intake.specs.Kept.{Holds}
+use Rattle.desk_intake.specs.Read.{ReadAs}
+use Rattle.desk_intake.specs.declared.Input.{Input}
+use Rattle.desk_intake.specs.declared.Input.the-variants.{More, End, Failed}
 use Rattle.cache_line.specs.declared.Reply.{Reply}
 use Rattle.cache_line.specs.Reply.{replyOf, cacheOf, repliedTo}
 use Rattle.cache_line.specs.RepliedLaws.{replied-line, replied-cache}
-use Rattle.cache_line.specs.Input.{roomLeast}
+use Rattle.cache_line.specs.Input.{cacheRoomLeast}
 use Rattle.cache_line.specs.WholeLaws.{kept-same-reply, kept-same-cache}
 use Rattle.cache_line.specs.SizeLaws.{lineMost, cacheMost, line-most, cache-most, wrote-inside, wrote-all}
 use Rattle.room.specs.Answers.{Answers, Inside}
@@ -41,7 +41,7 @@ module _ (space : List ℕ) (input : Input) (r : Reply) (line₀ line cache₀ c
   )
 
   -- at the end of the input: the answer to it, though only its beginning may be kept
-  pub answers-end : ((i : ℕ) → Fits w8 (getD space i 0)) → roomLeast ≤ length space → (n : ℕ) → input ≡ End n
+  pub answers-end : ((i : ℕ) → Fits w8 (getD space i 0)) → cacheRoomLeast ≤ length space → (n : ℕ) → input ≡ End n
       → r ≡ repliedTo (length line₀) (length cache₀) (take n space)
       → line ≡ putIn line₀ 0 (hexLine (replyOf (take n space))) → cache ≡ putIn cache₀ 0 (cacheOf (take n space))
       → Answers space input r line cache

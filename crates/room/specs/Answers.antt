@@ -1,13 +1,13 @@
 -- What the program answers to the input that was read.
--- Answers; Inside. What reading leaves in the space is in crate intake (Read), the answer in crate cache_line (Reply).
+-- Answers; Inside. What reading leaves in the space is in crate desk_intake (Read), the answer in crate cache_line (Reply).
 -- Assumes nothing.
 use Prim.Native.Nat.{ℕ, _≤_}
 use mathlib.Core.Path.{_≡_}
 use mathlib.Core.List.{List}
 use lib.ListN.{length, take}
 use Rattle.hex.specs.Hex.{hexLine}
-use Rattle.intake.specs.Read.{ReadAs}
-use Rattle.intake.specs.declared.Input.{Input}
+use Rattle.desk_intake.specs.Read.{ReadAs}
+use Rattle.desk_intake.specs.declared.Input.{Input}
 use Rattle.cache_line.specs.declared.Reply.{Reply}
 use Rattle.cache_line.specs.Reply.{replyOf, cacheOf}
 

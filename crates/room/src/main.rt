@@ -16,13 +16,13 @@ use cache_line::CACHE;
 use cache_line::LINE;
 use cache_line::ROOM;
 use cache_line::Reply;
-use intake::Input;
+use desk_intake::Input;
 use libc::STDIN_FILENO;
 use libc::STDOUT_FILENO;
 ghost use Prim.Native.Nat.{_≤_};
 ghost use lib.ListN.{length};
-ghost use Rattle.intake.specs.Read.{Onward, Read};
-ghost use Rattle.cache_line.specs.Input.{roomLeast};
+ghost use Rattle.desk_intake.specs.Read.{Onward, WasRead};
+ghost use Rattle.cache_line.specs.Input.{cacheRoomLeast};
 ghost use Rattle.cache_line.specs.SizeLaws.{lineMost, cacheMost};
 ghost use Rattle.room.specs.Answers.{Answers, Inside};
 
@@ -39,14 +39,14 @@ fn read_more(space: &mut [u8], done: usize) -> Input
     if n == 0 {
         return Input::End(done);
     }
-    let next = intake::keep(space, done, &chunk[..n]);
+    let next = desk_intake::keep(space, done, &chunk[..n]);
     Input::More(next)
 }
 
 // Reads to the end. A proved loop has to end, so it counts its turns down from a number that no run
 // uses up.
 fn read_all(space: &mut [u8]) -> Input
-    ensures { λ r. ⌜ Read (now (space .exit)) r ⌝ }
+    ensures { λ r. ⌜ WasRead (now (space .exit)) r ⌝ }
 {
     let mut done = 0;
     let mut turns = u64::MAX;
@@ -67,8 +67,8 @@ fn read_all(space: &mut [u8]) -> Input
 // Answers the input that was read, or an empty one where reading failed. In a space with room enough, and
 // buffers with room for every answer, the answer is that to the whole input, and all of it is there.
 fn answer_input(space: &[u8], input: Input, line: &mut [u8], cache: &mut [u8]) -> Reply
-    requires { ⌜ roomLeast ≤ length (now space) ⌝ }
-    requires { ⌜ Read (now space) input ⌝ }
+    requires { ⌜ cacheRoomLeast ≤ length (now space) ⌝ }
+    requires { ⌜ WasRead (now space) input ⌝ }
     requires { ⌜ lineMost ≤ length (now line) ⌝ }
     requires { ⌜ cacheMost ≤ length (now cache) ⌝ }
     ensures { λ r. ⌜ Answers (now (space .entry)) input r (now (line .exit)) (now (cache .exit)) ⌝ }
@@ -92,8 +92,8 @@ fn tell_failure(input: Input) {
 
 // Writes the line and the cache behind it to standard output.
 fn say_input(space: &[u8], input: Input)
-    requires { ⌜ roomLeast ≤ length (now space) ⌝ }
-    requires { ⌜ Read (now space) input ⌝ }
+    requires { ⌜ cacheRoomLeast ≤ length (now space) ⌝ }
+    requires { ⌜ WasRead (now space) input ⌝ }
 {
     tell_failure(input);
     let mut line = [0u8; LINE];

@@ -9,6 +9,7 @@ use mathlib.Core.Bool.{true}
 use mathlib.Core.List.{List, [], _∷_, List·Memᴰ}
 use mathlib.Core.Option.{Option, none, some}
 use lib.ListN.{length}
+use Rattle.calendar.specs.Time.{lastSecond}
 use Rattle.codec.specs.Tree.{treeEnc}
 use Rattle.layout.specs.Reading.{Extension, Responder, byName, byKey, Entry, Basic, failed, basic}
 use Rattle.layout.specs.Read.{reads, reading}
@@ -24,7 +25,7 @@ use Rattle.rules.specs.Order.{entriesFor}
 pub record InRange (q : Question) (name : List ℕ) : Type 0 where
   -- the card's serial keeps the serial rule, and its fill is zeros
   pub serial : cardOk (q .card) ≡ true
-  pub now : q .now ≤ 253402300799
+  pub now : q .now ≤ lastSecond
   pub tolerance : q .tolerance ≤ 3600
   pub verdict : q .verdict ≤ 2
   pub roleLeast : 1 ≤ q .role

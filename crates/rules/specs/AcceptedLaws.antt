@@ -12,6 +12,7 @@ use mathlib.Core.Option.{Option, none, some}
 use lib.Dec.{leb, eqb}
 use lib.ListN.{length}
 use borrow.Author.Tests.{leb-true, le-leb, eqb-true, eqb-false}
+use Rattle.calendar.specs.Time.{lastSecond}
 use Rattle.octets.specs.Same.{sameOf}
 use Rattle.octets.specs.SameLaws.{impossible, same-true, same-false, same-refl}
 use Rattle.element.specs.Form.{formOf}
@@ -41,7 +42,7 @@ range-exactly q name = (
       let d = both _ (leb 1 (q .role)) (c .0) in
       let f = both _ (leb (q .verdict) 2) (d .0) in
       let g = both _ (leb (q .tolerance) 3600) (f .0) in
-      let h = both (cardOk (q .card)) (leb (q .now) 253402300799) (g .0) in
+      let h = both (cardOk (q .card)) (leb (q .now) lastSecond) (g .0) in
       record {
         serial = h .0;
         now = leb-true _ _ (h .1);

@@ -1,6 +1,6 @@
 -- The entries for a card, in plain words: an entry is for the card by its three parts and its algorithm, and the search
 -- finds one exactly when that one stands in the list and no other is for the card.
--- for-exactly, none-exactly, only-exactly. The definitions are in OneCard, Order and crate matching.
+-- for-exactly, none-exactly, only-exactly. The definitions are in OneCard, Order and crate rule_matching.
 -- Assumes nothing.
 use Prim.Native.Nat.{ℕ}
 use native.Mathlib.Omega.{arith}
@@ -16,9 +16,10 @@ use Rattle.octets.specs.Same.{sameOf}
 use Rattle.octets.specs.SameLaws.{impossible, same-true, same-refl}
 use Rattle.codec.specs.Tree.{Tree, prim, node}
 use Rattle.layout.specs.Reading.{CertId, Entry}
+use Rattle.layout.specs.Sha1.{sha1}
 use Rattle.answer.specs.Card.{serialIn}
 use Rattle.answer.specs.declared.Card.{Card}
-use Rattle.matching.specs.Match.{sha1, isPlain, isSha1, matches, isFor}
+use Rattle.rule_matching.specs.Match.{isPlain, isSha1, matches, isFor}
 use Rattle.rules.specs.Order.{entriesFor}
 use Rattle.rules.specs.AcceptedLaws.{both}
 use Rattle.rules.specs.OneCard.{ForCard, OnlyEntry}

@@ -1,5 +1,5 @@
 -- The check by computing, from the octets: the case of document 01's program, M11, and what must be refused.
--- checked; card, asked; failure, desk-case; response, answered, m11-passes, m11-late, m11-tolerated; other-issuer, too-tolerant.
+-- checked; card, questionAt; failure, desk-case; response, answered, m11-passes, m11-late, m11-tolerated; other-issuer, too-tolerant.
 -- Assumes nothing.
 use Prim.Native.Nat.{ℕ}
 use mathlib.Core.Path.{_≡_, refl}
@@ -14,12 +14,13 @@ use Rattle.codec.specs.Tree.{prim}
 use Rattle.layout.specs.Reading.{good, byKey, Basic, failed, basic}
 use Rattle.layout.specs.Read.{basicType, reads, reading}
 use Rattle.layout.specs.Opened.{opened}
+use Rattle.layout.specs.Sha1.{sha1}
 use Rattle.freshness.specs.Fresh.{freshOf}
 use Rattle.answer.specs.Card.{allZero, fieldOk}
 use Rattle.answer.specs.Verdict.{refused}
 use Rattle.answer.specs.declared.Card.{Card}
 use Rattle.answer.specs.declared.Verdict.the-variants.{Good}
-use Rattle.matching.specs.Match.{sha1, matches}
+use Rattle.rule_matching.specs.Match.{matches}
 use Rattle.rules.specs.declared.Question.{Question}
 use Rattle.rules.specs.Question.{inRange}
 use Rattle.rules.specs.Signer.{isSigner, strange}
@@ -37,8 +38,8 @@ abbrev pub card : Card
 card = record { name = replicate 20 0x11; key = replicate 20 0x22; serial = 5 ∷ replicate 19 0; size = 1 }
 
 -- verdict 1, role 1, marks 0, key hash all 33, at a time and with a tolerance
-abbrev pub asked : ℕ → ℕ → Question
-asked now tolerance = record { card = card; now = now; tolerance = tolerance; verdict = 1; role = 1; marks = 0; signer = replicate 20 0x33 }
+abbrev pub questionAt : ℕ → ℕ → Question
+questionAt now tolerance = record { card = card; now = now; tolerance = tolerance; verdict = 1; role = 1; marks = 0; signer = replicate 20 0x33 }
 
 -- response 30 03 0A 01 06
 abbrev pub failure : List ℕ
@@ -49,7 +50,7 @@ unfolding opened
 failure-read = refl
 
 -- the case: now 1,114,909,200, tolerance 0, Name empty
-pub desk-case : answerOf (asked 1114909200 0) [] failure ≡ refused 4 6
+pub desk-case : answerOf (questionAt 1114909200 0) [] failure ≡ refused 4 6
 unfolding checked
 desk-case = rw failure-read
 
@@ -101,17 +102,17 @@ unfolding opened
 response-read = refl
 
 -- with tolerance 0 now 1,115,082,000 passes
-pub m11-passes : answerOf (asked 1115082000 0) [] response ≡ record { verdict = Good 1114909200 1115082000; card = card }
+pub m11-passes : answerOf (questionAt 1115082000 0) [] response ≡ record { verdict = Good 1114909200 1115082000; card = card }
 unfolding checked
 m11-passes = rw response-read
 
 -- one more gives 16
-pub m11-late : answerOf (asked 1115082001 0) [] response ≡ refused 16 0
+pub m11-late : answerOf (questionAt 1115082001 0) [] response ≡ refused 16 0
 unfolding checked
 m11-late = rw response-read
 
 -- with tolerance 1 it passes
-pub m11-tolerated : answerOf (asked 1115082001 1) [] response ≡ record { verdict = Good 1114909200 1115082000; card = card }
+pub m11-tolerated : answerOf (questionAt 1115082001 1) [] response ≡ record { verdict = Good 1114909200 1115082000; card = card }
 unfolding checked
 m11-tolerated = rw response-read
 
@@ -131,6 +132,6 @@ unfolding checked
 other-issuer = rw response-read
 
 -- a tolerance of 3,601 gives 1, whatever the response is
-pub too-tolerant : (s : List ℕ) → answerOf (asked 1115082000 3601) [] s ≡ refused 1 0
+pub too-tolerant : (s : List ℕ) → answerOf (questionAt 1115082000 3601) [] s ≡ refused 1 0
 unfolding checked
-too-tolerant s = out-of-range (asked 1115082000 3601) [] s refl
+too-tolerant s = out-of-range (questionAt 1115082000 3601) [] s refl

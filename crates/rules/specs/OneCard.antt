@@ -1,5 +1,5 @@
 -- Which entry an answer is taken from, in plain words: the one for this card, and no other is.
--- ForCard, OnlyEntry, Differ. The tests are isFor of crate matching, and entriesFor in Order; that these say the same is
+-- ForCard, OnlyEntry, Differ. The tests are isFor of crate rule_matching, and entriesFor in Order; that these say the same is
 -- in OneCardLaws.
 -- Assumes nothing.
 use mathlib.Core.Logic.{_⊎_}
@@ -9,9 +9,9 @@ use mathlib.Core.Option.{none, some}
 use Rattle.octets.specs.Number.{valueOf}
 use Rattle.codec.specs.Tree.{prim}
 use Rattle.layout.specs.Reading.{CertId, Entry}
+use Rattle.layout.specs.Sha1.{sha1}
 use Rattle.answer.specs.Card.{serialIn}
 use Rattle.answer.specs.declared.Card.{Card}
-use Rattle.matching.specs.Match.{sha1}
 
 -- a CertID is for the card: its algorithm is SHA-1, parameters absent or 05 00, both hashes and the serial are equal
 pub record ForCard (card : Card) (c : CertId) : Type 0 where

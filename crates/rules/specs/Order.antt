@@ -9,11 +9,11 @@ use mathlib.Core.Option.{Option, none, some}
 use lib.Dec.{ltb, eqb}
 use Rattle.layout.specs.Reading.{Entry, Basic, failed, basic}
 use Rattle.layout.specs.Read.{Outcome, reads, otherType, unfit}
-use Rattle.freshness.specs.Fresh.{freshOf, refusalOf}
+use Rattle.freshness.specs.Fresh.{freshOf, freshRefusal}
 use Rattle.freshness.specs.declared.Next.{Next}
 use Rattle.freshness.specs.declared.Next.the-variants.{At, Absent}
 use Rattle.answer.specs.declared.Card.{Card}
-use Rattle.matching.specs.Match.{isFor}
+use Rattle.rule_matching.specs.Match.{isFor}
 use Rattle.rules.specs.declared.Question.{Question}
 use Rattle.rules.specs.Question.{inRange}
 use Rattle.rules.specs.Signer.{isSigner, inResponse, inEntry, strangeIn}
@@ -88,7 +88,7 @@ nextIn (some n) = At n
 
 -- the number of the rule that an entry's times miss first, 13 to 16, or 0
 abbrev pub missed : Question → Entry → ℕ
-missed q e = refusalOf (freshOf (e .thisUpdate) (nextIn (e .nextUpdate)) (q .now) (q .tolerance))
+missed q e = freshRefusal (freshOf (e .thisUpdate) (nextIn (e .nextUpdate)) (q .now) (q .tolerance))
 
 -- ── the table ──
 module _ (c : Case) where

@@ -11,7 +11,7 @@ use lib.Dec.{eqb}
 use borrow.Author.Tests.{eqb-false}
 use Rattle.layout.specs.Reading.{Entry}
 use Rattle.freshness.specs.declared.Next.the-variants.{Absent}
-use Rattle.freshness.specs.Fresh.{freshOf, refusalOf}
+use Rattle.freshness.specs.Fresh.{freshOf, freshRefusal}
 use Rattle.freshness.specs.FreshLaws.{fresh-exactly, refusal-fresh, refusal-range, refusal-13, refusal-14, refusal-15, refusal-16}
 use Rattle.rules.specs.declared.Question.{Question}
 use Rattle.rules.specs.Order.{nextIn, missed}
@@ -34,7 +34,7 @@ module _ (this now tolerance : ℕ) where
   abbrev Counts : Option ℕ → Type 0
   Counts n = (next : ℕ) × (n ≡ some next) × (this ≤ next) × (this ≤ now) × (now ≤ next + tolerance)
 
-  counts-exactly : (n : Option ℕ) → refusalOf (freshOf this (nextIn n) now tolerance) ≡ 0 ↔ Counts n
+  counts-exactly : (n : Option ℕ) → freshRefusal (freshOf this (nextIn n) now tolerance) ≡ 0 ↔ Counts n
   counts-exactly none = (λ e. absurd (omega (arith, refusal-13 this Absent now tolerance .1 refl)), λ h. some-none (sym (h .1)))
   counts-exactly (some n) = (
     λ e. let f = fresh-exactly this n now tolerance .0 (refusal-fresh _ .0 e) in (n, refl, f .0, f .1, f .2),

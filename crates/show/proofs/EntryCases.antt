@@ -9,46 +9,32 @@ use lib.ListN.{length, take, drop, length-drop}
 use lib.Seq.{drop-drop}
 use mir.Syntax.{w64}
 use mir.Val.{Fits}
+use Rattle.octets.specs.LentLaws.{Known, known-octets, rest-is, part-is, part-length}
 use Rattle.element.specs.Header.{headerOf}
 use Rattle.element.specs.HeaderLaws.{header-inside}
 use Rattle.element.specs.declared.Header.{Header}
 use Rattle.element.specs.declared.Header.the-variants as header
 use Rattle.codec.specs.Many.{forms}
 use Rattle.layout.specs.Format.{singleResponse}
-use Rattle.spots.specs.ExpectLaws.{never}
-use Rattle.response.specs.Parts.{partsFrom, judgedOf, partsIn}
-use Rattle.response.specs.PartsLaws.{entries-stand}
-use Rattle.response.specs.JudgedLaws.{Reads, judged-basic}
-use Rattle.response.specs.Refusals.{refusalOf}
-use Rattle.show.specs.Shown.{refused, entryOf}
+use Rattle.read_response.specs.Parts.{partsFrom, judgedOf, partsIn}
+use Rattle.read_response.specs.PartsLaws.{entries-stand}
+use Rattle.read_response.specs.JudgedLaws.{Reads, judged-basic}
+use Rattle.show.specs.Shown.{refusedEntry, entryOf}
 use Rattle.show.specs.Steps.{stepSize, stepsSize, spotAfter}
 use Rattle.show.specs.StepsLaws.{step-inside, steps-inside, steps-more, entry-after}
 use Rattle.show.specs.EntryLaws.{entry-refused, entry-shown, entry-past}
-use Rattle.response.specs.declared.Parts.{Parts}
-use Rattle.response.specs.declared.Refusal.{Refusal}
-use Rattle.response.specs.declared.Judged.{Judged}
-use Rattle.response.specs.declared.Judged.the-variants as judged
+use Rattle.read_response.specs.declared.Parts.{Parts}
+use Rattle.read_response.specs.declared.Judged.{Judged}
+use Rattle.read_response.specs.declared.Judged.the-variants as judged
 use Rattle.show.specs.declared.Entry.{Entry}
 use Rattle.show.specs.declared.Entry.the-variants as entry
-use Rattle.pieces.specs.Lent.{Known, known-octets, rest-is, part-is, part-length}
+use Rattle.show.proofs.ShownCases.{Refused, not-basic}
 
 -- ── one step ──
-module _ (s : List ℕ) (x : Header) (q : x ≡ headerOf s) where
-  pub header-sum : (t h n : ℕ) → x ≡ header.Found t h n → length s < 2 ^ 64 → Fits w64 (h + n)
-  header-sum t h n f z = record { fits = omega (arith, header-inside s t h n (sym q ∙ f) .1) }
-
-  pub header-found : (t h n : ℕ) → x ≡ header.Found t h n → h + n ≡ stepSize s
-  unfolding stepSize
-  header-found t h n f = rw (← q, f)
-
-  pub header-none : (p : ℕ) → x ≡ header.Refused p → 0 ≡ stepSize s
-  unfolding stepSize
-  header-none p f = rw (← q, f)
+pub header-sum : (s : List ℕ) (x : Header) → x ≡ headerOf s → (t h n : ℕ) → x ≡ header.Found t h n → length s < 2 ^ 64 → Fits w64 (h + n)
+header-sum s x q t h n f z = record { fits = omega (arith, header-inside s t h n (sym q ∙ f) .1) }
 
 -- ── a loop over steps: at a place, with so many steps left ──
-pub steps-start : (k : ℕ) (s : List ℕ) → 0 + stepsSize k (drop 0 s) ≡ stepsSize k s
-steps-start k s = omega arith
-
 pub steps-end : (k : ℕ) (s : List ℕ) (at left : ℕ) → at + stepsSize left (drop at s) ≡ stepsSize k s → left ≤ 0 → at ≡ stepsSize k s
 unfolding stepsSize
 steps-end k s at left i le =
@@ -86,24 +72,10 @@ module _ (s : List ℕ) (place k at : ℕ) (q : at ≡ stepsSize k s) where
   unfolding spotAfter
   after-found n e = rw (e, rest-is at s, q)
 
--- ── a refusal ──
-pub refused-is : (x : Judged) (r : Refusal) → r ≡ refusalOf x → entry.Refused (r .number) (r .status) ≡ refused x
-refused-is x r e = rw e
-
 -- ── by what the response was judged to be ──
 module _ (s : List ℕ) (k : ℕ) (x : Judged) (q : x ≡ judgedOf s) where
-  module _ (y : Entry) (r : y ≡ refused x) where
-    pub entry-long : x ≡ judged.TooLong → y ≡ entryOf s k
-    entry-long f = r ∙ sym (entry-refused s k x (sym q) (λ t e. never (cc)))
-
-    pub entry-unfit : (p : ℕ) → x ≡ judged.Unfit p → y ≡ entryOf s k
-    entry-unfit p f = r ∙ sym (entry-refused s k x (sym q) (λ t e. never (cc)))
-
-    pub entry-failed : (n : ℕ) → x ≡ judged.Failed n → y ≡ entryOf s k
-    entry-failed n f = r ∙ sym (entry-refused s k x (sym q) (λ t e. never (cc)))
-
-    pub entry-other : x ≡ judged.OtherType → y ≡ entryOf s k
-    entry-other f = r ∙ sym (entry-refused s k x (sym q) (λ t e. never (cc)))
+  pub entry-none : Refused x → (y : Entry) → y ≡ refusedEntry x → y ≡ entryOf s k
+  entry-none u y r = r ∙ sym (entry-refused s k x (sym q) (not-basic x u))
 
   module _ (t : Parts) (f : x ≡ judged.Basic t) where
     found : Reads s t

@@ -1,76 +1,27 @@
--- The cases of what is shown, by what the response was judged to be.
+-- The cases of what a response was judged to be, after the first: none of them has parts or entries.
+-- parts-none, not-basic.
 -- Assumes nothing.
-use Prim.Native.Nat.{ℕ, _+_, _-_, _≤_}
-use native.Mathlib.Omega.{arith}
-use mathlib.Core.Path.{_≡_, sym, _∙_}
-use mathlib.Core.List.{List, []}
-use lib.ListN.{length, take, drop}
-use mir.Syntax.{w64}
-use mir.Val.{Fits}
-use Rattle.response.specs.Parts.{judgedOf}
-use Rattle.response.specs.PartsLaws.{signed-stands, signature-stands}
-use Rattle.show.specs.Shown.{signedIn, signedOf, signatureIn, signatureOf}
-use Rattle.response.specs.JudgedLaws.{Reads, judged-basic}
-use Rattle.response.specs.declared.Parts.{Parts}
-use Rattle.response.specs.declared.Judged.{Judged}
-use Rattle.response.specs.declared.Judged.the-variants as judged
-use Rattle.pieces.specs.Lent.{Known, known-octets, part-is}
+use mathlib.Core.Path.{_≡_}
+use mathlib.Core.List.{[], _∷_}
+use denote.Enum.Declared.{tagOf}
+use types.Run.{OneOf, miss}
+use Rattle.read_response.specs.declared.Parts.{Parts}
+use Rattle.read_response.specs.declared.Judged.{Judged}
+use Rattle.read_response.specs.declared.Judged.the-variants as judged
+use Rattle.read_response.proofs.Judged.{the-type}
+use Rattle.show.specs.Parts.{noParts, shownParts}
 
-module _ (s : List ℕ) (x : Judged) (q : x ≡ judgedOf s) where
-  -- ── the signed part ──
-  module _ (t : Parts) (f : x ≡ judged.Basic t) where
-    found : Reads s t
-    found = judged-basic s t (sym q ∙ f)
+-- what an arm `_` knows of what is judged: its tag is one of those after the first
+abbrev pub Refused : Judged → Type 0
+Refused j = OneOf (1 ∷ 2 ∷ 3 ∷ 4 ∷ []) (tagOf the-type j)
 
-    pub signed-end : Known s → t .signed .start + t .signed .len ≤ length s
-    signed-end k = rw (found .parts) (signed-stands s (found .value) (known-octets s k) (found .read) .inside)
+pub parts-none : (j : Judged) → Refused j → (p : Parts) → p ≡ noParts → p ≡ shownParts j
+unfolding shownParts
+parts-none (judged.Basic t) k p e = absurd (miss (1 ∷ 2 ∷ 3 ∷ 4 ∷ []) 0 tt k)
+parts-none judged.TooLong k p e = e
+parts-none (judged.Unfit n) k p e = e
+parts-none (judged.Failed n) k p e = e
+parts-none judged.OtherType k p e = e
 
-    pub signed-sum : Known s → Fits w64 (t .signed .start + t .signed .len)
-    signed-sum k = record { fits = omega (arith, signed-end k, found .small) }
-
-    pub signed-given : take (t .signed .start + t .signed .len - t .signed .start) (drop (t .signed .start) s) ≡ signedOf s
-    unfolding signedOf signedIn
-    signed-given = rw (← q, f) (part-is (t .signed .start) (t .signed .len) s)
-
-    pub signature-end : Known s → t .signature .start + t .signature .len ≤ length s
-    signature-end k = rw (found .parts) (signature-stands s (found .value) (known-octets s k) (found .read) .inside)
-
-    pub signature-sum : Known s → Fits w64 (t .signature .start + t .signature .len)
-    signature-sum k = record { fits = omega (arith, signature-end k, found .small) }
-
-    pub signature-given : take (t .signature .start + t .signature .len - t .signature .start) (drop (t .signature .start) s) ≡ signatureOf s
-    unfolding signatureOf signatureIn
-    signature-given = rw (← q, f) (part-is (t .signature .start) (t .signature .len) s)
-
-  -- ── an empty part ──
-  pub long-signed : x ≡ judged.TooLong → [] ≡ signedOf s
-  unfolding signedOf signedIn
-  long-signed f = rw (← q, f)
-
-  pub unfit-signed : (p : ℕ) → x ≡ judged.Unfit p → [] ≡ signedOf s
-  unfolding signedOf signedIn
-  unfit-signed p f = rw (← q, f)
-
-  pub failed-signed : (n : ℕ) → x ≡ judged.Failed n → [] ≡ signedOf s
-  unfolding signedOf signedIn
-  failed-signed n f = rw (← q, f)
-
-  pub other-signed : x ≡ judged.OtherType → [] ≡ signedOf s
-  unfolding signedOf signedIn
-  other-signed f = rw (← q, f)
-
-  pub long-signature : x ≡ judged.TooLong → [] ≡ signatureOf s
-  unfolding signatureOf signatureIn
-  long-signature f = rw (← q, f)
-
-  pub unfit-signature : (p : ℕ) → x ≡ judged.Unfit p → [] ≡ signatureOf s
-  unfolding signatureOf signatureIn
-  unfit-signature p f = rw (← q, f)
-
-  pub failed-signature : (n : ℕ) → x ≡ judged.Failed n → [] ≡ signatureOf s
-  unfolding signatureOf signatureIn
-  failed-signature n f = rw (← q, f)
-
-  pub other-signature : x ≡ judged.OtherType → [] ≡ signatureOf s
-  unfolding signatureOf signatureIn
-  other-signature f = rw (← q, f)
+pub not-basic : (j : Judged) → Refused j → (t : Parts) → j ≡ judged.Basic t → ⊥
+not-basic j k t e = miss (1 ∷ 2 ∷ 3 ∷ 4 ∷ []) 0 tt (rw e at k)

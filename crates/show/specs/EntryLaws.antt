@@ -16,29 +16,29 @@ use Rattle.codec.specs.Many.{forms}
 use Rattle.layout.specs.Reading as reading
 use Rattle.layout.specs.Format.{singleResponse}
 use Rattle.layout.specs.Read.{Outcome, reads, otherType, unfit, reading}
-use Rattle.response.specs.Parts.{span, judgedAs, judgedOf, partsIn}
-use Rattle.response.specs.Stands.{Stands, part-stands}
-use Rattle.response.specs.PartsLaws.{entries-stand}
-use Rattle.show.specs.Shown.{refused, entryIn, entryAs, entryOf}
+use Rattle.read_response.specs.Parts.{span, judgedAs, judgedOf, partsIn}
+use Rattle.read_response.specs.Stands.{Stands, part-stands}
+use Rattle.read_response.specs.PartsLaws.{entries-stand}
+use Rattle.show.specs.Shown.{refusedEntry, entryIn, entryAs, entryOf}
 use Rattle.show.specs.StepsLaws.{forms-cut}
-use Rattle.response.specs.declared.Parts.{Parts}
-use Rattle.response.specs.declared.Judged.{Judged}
-use Rattle.response.specs.declared.Judged.the-variants as judged
+use Rattle.read_response.specs.declared.Parts.{Parts}
+use Rattle.read_response.specs.declared.Judged.{Judged}
+use Rattle.read_response.specs.declared.Judged.the-variants as judged
 use Rattle.show.specs.declared.Entry.the-variants as entry
 
 -- what is not judged basic has no entry: its refusal stands at every ordinal
-pub entry-refused : (s : List ℕ) (k : ℕ) (j : Judged) → judgedOf s ≡ j → ((t : Parts) → j ≡ judged.Basic t → ⊥) → entryOf s k ≡ refused j
+pub entry-refused : (s : List ℕ) (k : ℕ) (j : Judged) → judgedOf s ≡ j → ((t : Parts) → j ≡ judged.Basic t → ⊥) → entryOf s k ≡ refusedEntry j
 unfolding judgedOf judgedAs entryOf entryAs
 entry-refused s k j e other = go (ltb 16384 (length s)) e
   where
-    on : (o : Outcome) → judgedAs (length s) o ≡ j → entryAs (length s) k o ≡ refused j
+    on : (o : Outcome) → judgedAs (length s) o ≡ j → entryAs (length s) k o ≡ refusedEntry j
     on (reads (reading.basic b)) e = absurd (other (partsIn s b) (sym e))
-    on (reads (reading.failed c)) e = ap refused e
-    on otherType e = ap refused e
-    on (unfit p) e = ap refused e
+    on (reads (reading.failed c)) e = ap refusedEntry e
+    on otherType e = ap refusedEntry e
+    on (unfit p) e = ap refusedEntry e
 
-    go : (b : Bool) → cond b judged.TooLong (judgedAs (length s) (reading s)) ≡ j → cond b (refused judged.TooLong) (entryAs (length s) k (reading s)) ≡ refused j
-    go true e = ap refused e
+    go : (b : Bool) → cond b judged.TooLong (judgedAs (length s) (reading s)) ≡ j → cond b (refusedEntry judged.TooLong) (entryAs (length s) k (reading s)) ≡ refusedEntry j
+    go true e = ap refusedEntry e
     go false e = on (reading s) e
 
 module _ (s : List ℕ) (b : reading.Basic) (le : length s ≤ 16384) (e : reading s ≡ reads (reading.basic b)) (k : ℕ) where

@@ -1,11 +1,11 @@
 -- The signature and the entries of a basic response, by computing.
--- full-signature, first-entry, second-entry, no-entry. The response is full of crate response.
+-- full-signature, first-entry, second-entry, no-entry. The response is full of crate read_response.
 -- Assumes nothing.
 use mathlib.Core.Path.{_≡_, refl}
 use mathlib.Core.List.{[], _∷_}
 use Rattle.layout.specs.Opened.{opened}
-use Rattle.response.specs.Parts.{partsFrom, judgedAs, judgedOf}
-use Rattle.response.specs.Examples.{full}
+use Rattle.read_response.specs.Parts.{partsFrom, judgedAs, judgedOf}
+use Rattle.read_response.specs.Examples.{full}
 use Rattle.show.specs.Shown.{signatureIn, signatureOf, entryIn, entryAs, entryOf}
 use Rattle.show.specs.declared.Entry.the-variants as entry
 

@@ -1,4 +1,6 @@
+pub mod Parts
 pub mod Shown
+pub mod PartsLaws
 pub mod ShownLaws
 pub mod Steps
 pub mod StepsLaws

@@ -1,5 +1,5 @@
 -- What is shown of a response: its signed part, its signature, and its entries one by one.
--- octetsIn, signedOf, signatureOf; refused, entryIn, entryAs, entryOf. Their laws are in ShownLaws and
+-- octetsIn, signedOf, signatureOf; refusedEntry, entryIn, entryAs, entryOf. Their laws are in ShownLaws and
 -- EntryLaws.
 -- Assumes nothing.
 use Prim.Native.Nat.{ℕ, _+_, _-_}
@@ -11,11 +11,11 @@ use Rattle.codec.specs.Many.{forms}
 use Rattle.layout.specs.Reading as reading
 use Rattle.layout.specs.Format.{singleResponse, basicBody}
 use Rattle.layout.specs.Read.{Outcome, reads, otherType, unfit, reading}
-use Rattle.response.specs.Parts.{partsFrom, judgedAs, judgedOf}
-use Rattle.response.specs.Refusals.{refusalOf}
-use Rattle.response.specs.declared.Span.{Span}
-use Rattle.response.specs.declared.Judged.{Judged}
-use Rattle.response.specs.declared.Judged.the-variants as judged
+use Rattle.read_response.specs.Parts.{partsFrom, judgedAs, judgedOf}
+use Rattle.read_response.specs.Refusals.{refusalOf}
+use Rattle.read_response.specs.declared.Span.{Span}
+use Rattle.read_response.specs.declared.Judged.{Judged}
+use Rattle.read_response.specs.declared.Judged.the-variants as judged
 use Rattle.show.specs.declared.Entry.{Entry}
 use Rattle.show.specs.declared.Entry.the-variants as entry
 
@@ -47,8 +47,8 @@ signatureOf s = signatureIn s (judgedOf s)
 
 -- ── the entries one by one ──
 -- a refusal instead of an entry
-abbrev pub refused : Judged → Entry
-refused j = entry.Refused (refusalOf j .number) (refusalOf j .status)
+abbrev pub refusedEntry : Judged → Entry
+refusedEntry j = entry.Refused (refusalOf j .number) (refusalOf j .status)
 
 -- of entries whose octets start at a place, the one with this ordinal, counted from 0: it comes after
 -- the forms of those before it; at or past their number is the end
@@ -60,10 +60,10 @@ entryIn at l k =
 
 unfoldable pub entryAs : ℕ → ℕ → Outcome → Entry
 entryAs n k (reads (reading.basic b)) = entryIn (partsFrom (n - length (basicBody .enc b)) b .entries .start) (b .signed .entries) k
-entryAs n k (reads (reading.failed c)) = refused (judgedAs n (reads (reading.failed c)))
-entryAs n k otherType = refused (judgedAs n otherType)
-entryAs n k (unfit p) = refused (judgedAs n (unfit p))
+entryAs n k (reads (reading.failed c)) = refusedEntry (judgedAs n (reads (reading.failed c)))
+entryAs n k otherType = refusedEntry (judgedAs n otherType)
+entryAs n k (unfit p) = refusedEntry (judgedAs n (unfit p))
 
 -- the entry with this ordinal, header included
 unfoldable pub entryOf : List ℕ → ℕ → Entry
-entryOf s k = cond (ltb 16384 (length s)) (refused judged.TooLong) (entryAs (length s) k (reading s))
+entryOf s k = cond (ltb 16384 (length s)) (refusedEntry judged.TooLong) (entryAs (length s) k (reading s))

@@ -9,8 +9,8 @@ use Rattle.octets.specs.Octets.{Octets}
 use Rattle.layout.specs.Reading.{Basic, basic}
 use Rattle.layout.specs.Format.{responseData}
 use Rattle.layout.specs.Read.{reads, reading}
-use Rattle.response.specs.PartsLaws.{signed-stands, signature-stands}
-use Rattle.response.specs.JudgedLaws.{basic-judged}
+use Rattle.read_response.specs.PartsLaws.{signed-stands, signature-stands}
+use Rattle.read_response.specs.JudgedLaws.{basic-judged}
 use Rattle.show.specs.Shown.{signedIn, signedOf, signatureIn, signatureOf}
 
 -- what is shown is the form of the signed part, and the signature

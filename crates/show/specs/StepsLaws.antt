@@ -16,7 +16,7 @@ use Rattle.element.specs.Header.{headerOf}
 use Rattle.element.specs.HeaderLaws.{header-inside}
 use Rattle.element.specs.declared.Header.{Header}
 use Rattle.element.specs.declared.Header.the-variants.{Found, Refused}
-use Rattle.codec.specs.Parts.{form-found, small-left, small-right, small-content}
+use Rattle.codec.specs.PartLaws.{form-found, small-left, small-right, small-content}
 use Rattle.codec.specs.Many.{forms}
 use Rattle.layout.specs.Reading.{Entry}
 use Rattle.layout.specs.Kinds.{tag-30}

@@ -1,11 +1,11 @@
 // The entries of a response one by one, found from header to header.
 use crate::Entry;
 use element::Header;
-use response::Judged;
+use read_response::Judged;
 ghost use Prim.Native.Nat.{_+_, _≤_};
 ghost use mathlib.Core.Path.{_≡_};
 ghost use lib.ListN.{length};
-ghost use Rattle.show.specs.Shown.{refused, entryOf};
+ghost use Rattle.show.specs.Shown.{refusedEntry, entryOf};
 ghost use Rattle.show.specs.Steps.{stepSize, stepsSize, spotAfter};
 
 // How many octets the element at the head of s takes; none where there is no header.
@@ -49,9 +49,9 @@ fn spot_after(s: &[u8], place: usize, count: usize) -> Entry
 
 // A refusal instead of an entry.
 fn refuse_entry(judged: Judged) -> Entry
-    ensures { λ r. ⌜ r ≡ refused judged ⌝ }
+    ensures { λ r. ⌜ r ≡ refusedEntry judged ⌝ }
 {
-    let refusal = response::refusal_of(judged);
+    let refusal = read_response::refusal_of(judged);
     Entry::Refused {
         number: refusal.number,
         status: refusal.status,
@@ -62,7 +62,7 @@ fn refuse_entry(judged: Judged) -> Entry
 pub fn entry_at(s: &[u8], place: usize) -> Entry
     ensures { λ r. ⌜ r ≡ entryOf (now (s .entry)) place ⌝ }
 {
-    let judged = response::judge(s);
+    let judged = read_response::judge(s);
     match judged {
         Judged::Basic(parts) => {
             let count = parts.count;
@@ -74,9 +74,6 @@ pub fn entry_at(s: &[u8], place: usize) -> Entry
             let end = start + span.len;
             spot_after(&s[start..end], start, place)
         }
-        Judged::TooLong => refuse_entry(judged),
-        Judged::Unfit(_) => refuse_entry(judged),
-        Judged::Failed(_) => refuse_entry(judged),
-        Judged::OtherType => refuse_entry(judged),
+        _ => refuse_entry(judged),
     }
 }

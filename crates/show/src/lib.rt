@@ -1,11 +1,13 @@
-// What is shown of a response: its signed part, its signature, and its entries one by one.
+// What is shown of a response: where its parts are, its signed part, its signature, and its entries one by
+// one.
 //
 // No public function here has a requirement. Nothing is copied: a part that is shown is a part of the
 // caller's own octets, and an entry is told by its place in them.
 mod entries; // the entries one by one
-mod parts; // the signed part and the signature
+mod parts; // where the parts are, the signed part and the signature
 
 pub use entries::entry_at;
+pub use parts::parts_of;
 pub use parts::signature;
 pub use parts::signed_part;
 

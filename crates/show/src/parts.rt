@@ -1,42 +1,64 @@
-// The signed part and the signature.
-use response::Judged;
+// The parts of a response: where they are, and the octets of the signed part and of the signature.
+use read_response::Judged;
+use read_response::Parts;
+use read_response::Span;
+ghost use Prim.Native.Nat.{_+_, _≤_};
 ghost use mathlib.Core.Path.{_≡_};
-ghost use Rattle.show.specs.Shown.{signedOf, signatureOf};
+ghost use lib.ListN.{length};
+ghost use Rattle.show.specs.Parts.{noParts, shownParts};
+ghost use Rattle.show.specs.Shown.{octetsIn, signedOf, signatureOf};
+
+// The parts of what has none: each is empty.
+fn no_parts() -> Parts
+    ensures { λ r. ⌜ r ≡ noParts ⌝ }
+{
+    let empty = Span { start: 0, len: 0 };
+    Parts {
+        signed: empty,
+        responder: empty,
+        entries: empty,
+        count: 0,
+        extensions: empty,
+        algorithm: empty,
+        signature: empty,
+        certificates: empty,
+    }
+}
+
+// The parts of a response, by what it is; all empty where it is refused.
+pub fn parts_of(judged: Judged) -> Parts
+    ensures { λ r. ⌜ r ≡ shownParts judged ⌝ }
+{
+    match judged {
+        Judged::Basic(parts) => parts,
+        _ => no_parts(),
+    }
+}
+
+// The octets at a place: the caller's own.
+fn octets_at<'a>(s: &'a [u8], at: Span) -> &'a [u8]
+    requires { ⌜ at .start + at .len ≤ length (now s) ⌝ }
+    ensures { λ r. ⌜ now r ≡ octetsIn (now (s .entry)) at ⌝ }
+{
+    let start = at.start;
+    let end = start + at.len;
+    &s[start..end]
+}
 
 // The signed part, header included: the caller's own octets; nothing where there is a refusal.
 pub fn signed_part<'a>(s: &'a [u8]) -> &'a [u8]
     ensures { λ r. ⌜ now r ≡ signedOf (now (s .entry)) ⌝ }
 {
-    let judged = response::judge(s);
-    match judged {
-        Judged::Basic(parts) => {
-            let span = parts.signed;
-            let start = span.start;
-            let end = start + span.len;
-            &s[start..end]
-        }
-        Judged::TooLong => &s[..0],
-        Judged::Unfit(_) => &s[..0],
-        Judged::Failed(_) => &s[..0],
-        Judged::OtherType => &s[..0],
-    }
+    let judged = read_response::judge(s);
+    let parts = parts_of(judged);
+    octets_at(s, parts.signed)
 }
 
 // The signature, without its 00: the caller's own octets; nothing where there is a refusal.
 pub fn signature<'a>(s: &'a [u8]) -> &'a [u8]
     ensures { λ r. ⌜ now r ≡ signatureOf (now (s .entry)) ⌝ }
 {
-    let judged = response::judge(s);
-    match judged {
-        Judged::Basic(parts) => {
-            let span = parts.signature;
-            let start = span.start;
-            let end = start + span.len;
-            &s[start..end]
-        }
-        Judged::TooLong => &s[..0],
-        Judged::Unfit(_) => &s[..0],
-        Judged::Failed(_) => &s[..0],
-        Judged::OtherType => &s[..0],
-    }
+    let judged = read_response::judge(s);
+    let parts = parts_of(judged);
+    octets_at(s, parts.signature)
 }

@@ -8,6 +8,7 @@ use mathlib.Core.Path.{_≡_, sym, ap, _∙_}
 use mathlib.Core.Bool.{Bool, true, false, not}
 use lib.Dec.{leb, eqb}
 use borrow.Author.Tests.{eq-eqb, ne-eqb, le-leb, lt-leb, not-true, not-false}
+use Rattle.calendar.specs.Time.{lastSecond}
 use Rattle.answer.specs.declared.Card.{Card}
 use Rattle.answer.specs.declared.Reason.{Reason}
 use Rattle.answer.specs.declared.Reason.the-variants.{Given, Absent}
@@ -16,7 +17,7 @@ use Rattle.answer.specs.declared.Verdict.the-variants.{Good, Revoked, Unknown, 
 use Rattle.answer.specs.declared.Answer.{Answer}
 use Rattle.answer.specs.Card.{emptyCard, cardOk, sameCard}
 use Rattle.answer.specs.Verdict.{kindOf}
-use Rattle.slip.specs.Rules.{lastTime, timesOk, reasonOk, errorOk, statusOk, numberOk, verdictOk}
+use Rattle.slip.specs.Rules.{timesOk, reasonFits, errorOk, statusFits, numberOk, verdictOk}
 use Rattle.slip.specs.Table.{rowOf}
 use Rattle.slip.specs.Slip.{cardFits, slipOk}
 
@@ -27,23 +28,23 @@ module _ (this next : ℕ) where
   unfolding timesOk
   times-reversed h = sym (rw (lt-leb this next h))
 
-  pub times-last : this ≤ next → leb next lastTime ≡ timesOk this next
+  pub times-last : this ≤ next → leb next lastSecond ≡ timesOk this next
   unfolding timesOk
   times-last h = sym (rw (le-leb this next h))
 
 -- ---- a reason
 
 module _ (n : ℕ) (reason : Reason) (e : reason ≡ Given n) where
-  pub reason-seven : n ≡ 7 → false ≡ reasonOk reason
-  unfolding reasonOk
+  pub reason-seven : n ≡ 7 → false ≡ reasonFits reason
+  unfolding reasonFits
   reason-seven h = sym (rw (e, eq-eqb n 7 h))
 
-  pub reason-most : (n ≡ 7 → ⊥) → leb n 10 ≡ reasonOk reason
-  unfolding reasonOk
+  pub reason-most : (n ≡ 7 → ⊥) → leb n 10 ≡ reasonFits reason
+  unfolding reasonFits
   reason-most h = sym (rw (e, ne-eqb n 7 h))
 
-pub reason-absent : (reason : Reason) → reason ≡ Absent → true ≡ reasonOk reason
-unfolding reasonOk
+pub reason-absent : (reason : Reason) → reason ≡ Absent → true ≡ reasonFits reason
+unfolding reasonFits
 reason-absent reason e = sym (rw e)
 
 -- ---- a refusal
@@ -63,12 +64,12 @@ module _ (status : ℕ) where
     error-most l = sym (rw (ne-eqb status 4 h, le-leb 1 status l))
 
 module _ (number status : ℕ) where
-  pub status-four : number ≡ 4 → (r : Bool) → r ≡ errorOk status → r ≡ statusOk number status
-  unfolding statusOk
+  pub status-four : number ≡ 4 → (r : Bool) → r ≡ errorOk status → r ≡ statusFits number status
+  unfolding statusFits
   status-four h r e = e ∙ sym (rw (eq-eqb number 4 h))
 
-  pub status-zero : (number ≡ 4 → ⊥) → eqb status 0 ≡ statusOk number status
-  unfolding statusOk
+  pub status-zero : (number ≡ 4 → ⊥) → eqb status 0 ≡ statusFits number status
+  unfolding statusFits
   status-zero h = sym (rw (ne-eqb number 4 h))
 
   pub number-none : number < 1 → false ≡ verdictOk (Refused number status)
@@ -80,7 +81,7 @@ module _ (number status : ℕ) where
     unfolding verdictOk numberOk
     number-more h = sym (rw (le-leb 1 number l, lt-leb number 16 h))
 
-    pub number-fits : number ≤ 16 → (r : Bool) → r ≡ statusOk number status → r ≡ verdictOk (Refused number status)
+    pub number-fits : number ≤ 16 → (r : Bool) → r ≡ statusFits number status → r ≡ verdictOk (Refused number status)
     unfolding verdictOk numberOk
     number-fits h r e = e ∙ sym (rw (le-leb 1 number l, le-leb number 16 h))
 
@@ -92,13 +93,13 @@ module _ (this next at : ℕ) (reason : Reason) (t : Bool) (p : t ≡ timesOk th
   revoked-times h = sym (rw (← p, not-true t h))
 
   module _ (u : not t ≡ false) where
-    pub revoked-late : lastTime < at → false ≡ verdictOk (Revoked this next at reason)
+    pub revoked-late : lastSecond < at → false ≡ verdictOk (Revoked this next at reason)
     unfolding verdictOk
-    revoked-late h = sym (rw (← p, not-false t u, lt-leb at lastTime h))
+    revoked-late h = sym (rw (← p, not-false t u, lt-leb at lastSecond h))
 
-    pub revoked-reason : at ≤ lastTime → (r : Bool) → r ≡ reasonOk reason → r ≡ verdictOk (Revoked this next at reason)
+    pub revoked-reason : at ≤ lastSecond → (r : Bool) → r ≡ reasonFits reason → r ≡ verdictOk (Revoked this next at reason)
     unfolding verdictOk
-    revoked-reason h r e = e ∙ sym (rw (← p, not-false t u, le-leb at lastTime h))
+    revoked-reason h r e = e ∙ sym (rw (← p, not-false t u, le-leb at lastSecond h))
 
 -- ---- a verdict
 

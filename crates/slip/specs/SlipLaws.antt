@@ -1,15 +1,14 @@
 -- Laws of slips: a slip that was written is read as its answer, and one that is read is written as the same octets.
--- slip-length; slip-parts, read-written; written-read, read-exactly; slip-first, read-out, write-back.
+-- slip-length; slip-parts, read-written; written-read, read-exactly.
 -- The definitions are in Slip. A hash has n octets. Assumes nothing.
-use Prim.Native.Nat.{ℕ, suc, _≤_, _<_}
+use Prim.Native.Nat.{ℕ, suc, _<_}
 use native.Mathlib.Omega.{arith}
 use mathlib.Core.Logic.{_↔_, ⊎-elim}
 use mathlib.Core.Path.{_≡_, refl, sym, ap, ap₂, _∙_}
 use mathlib.Core.Bool.{Bool, true, false, cond}
-use mathlib.Core.List.{List, [], _∷_, _++_}
+use mathlib.Core.List.{List, [], _∷_}
 use lib.Dec.{eqb}
-use lib.ListN.{length, take, drop}
-use lib.Seq.{take-at}
+use lib.ListN.{length, drop}
 use borrow.Author.Tests.{eqb-true}
 use Rattle.octets.specs.Octets.{Octets}
 use Rattle.octets.specs.SameLaws.{impossible}
@@ -17,15 +16,13 @@ use Rattle.answer.specs.declared.Answer.{Answer}
 use Rattle.answer.specs.Card.{emptyCard, cardOk, sameCard}
 use Rattle.answer.specs.CardLaws.{field-exactly, same-card-true}
 use Rattle.answer.specs.Verdict.{kindOf, valuesOf, refused}
-use Rattle.fields.specs.Output.{outputIn}
-use Rattle.fields.specs.OutputLaws.{first-written}
 use Rattle.slip.specs.Numbers.{numbersIn}
 use Rattle.slip.specs.NumbersLaws.{numbers-count}
 use Rattle.slip.specs.Rules.{verdictOk}
 use Rattle.slip.specs.RulesLaws.{both, verdict-fits, verdict-back, refused-broken}
 use Rattle.slip.specs.Table.{Row, noRow, rowOf, cardSize, bodySize, sizeOf}
 use Rattle.slip.specs.TableLaws.{Faithful, row-faithful, verdict-count}
-use Rattle.slip.specs.Slip.{bodyOf, slipOf, cardFits, slipOk, slipRefusal, verdictIn, cardUnder, parsedAs, parsed, readOf, Hashed}
+use Rattle.slip.specs.Slip.{bodyOf, slipOf, cardFits, slipOk, verdictIn, cardUnder, parsedAs, parsed, readOf, Hashed}
 use Rattle.slip.specs.BodyLaws.{answer-same, body-length, body-read, body-written}
 
 -- a slip has as many octets as its kind says
@@ -124,24 +121,3 @@ module _ (n : ℕ) (s : List ℕ) (p : Octets s) where
   )
 
 -- ---- in a buffer
-
-module _ (a : Answer) (ok : slipOk a ≡ true) (out : List ℕ) (room : length (slipOf a) ≤ length out) where
-  -- what the writer leaves: the slip first, and the rest unchanged
-  pub slip-first : outputIn (slipRefusal a) out (slipOf a) ≡ slipOf a ++ drop (length (slipOf a)) out
-  unfolding slipRefusal
-  slip-first = rw ok (first-written out (slipOf a) room)
-
-  -- its first octets, as many as were written, read as the answer
-  pub read-out : (n : ℕ) → Hashed n a
-      → readOf n (take (length (slipOf a)) (outputIn (slipRefusal a) out (slipOf a))) ≡ a
-  read-out n h =
-      ap (λ (s : List ℕ). readOf n (take (length (slipOf a)) s)) slip-first
-      ∙ ap (readOf n) (take-at (slipOf a) (drop (length (slipOf a)) out) (length (slipOf a)) refl)
-      ∙ read-written a ok n h
-
--- what was read, written into a buffer with room, stands there as it was
-pub write-back : (n : ℕ) (s out : List ℕ) → Octets s → (readOf n s ≡ refused 17 0 → ⊥) → length s ≤ length out
-    → outputIn (slipRefusal (readOf n s)) out (slipOf (readOf n s)) ≡ s ++ drop (length s) out
-write-back n s out p h l =
-    let w = written-read n s p h in
-    slip-first (readOf n s) (w .0) out (rw (w .1) l) ∙ ap (λ (t : List ℕ). t ++ drop (length t) out) (w .1)

@@ -5,7 +5,7 @@ use answer::Card;
 use answer::Reason;
 use answer::Verdict;
 ghost use mathlib.Core.Path.{_≡_};
-ghost use Rattle.slip.specs.Rules.{timesOk, reasonOk, errorOk, statusOk, verdictOk};
+ghost use Rattle.slip.specs.Rules.{timesOk, reasonFits, errorOk, statusFits, verdictOk};
 ghost use Rattle.answer.specs.declared.Verdict.the-variants.{Revoked, Refused};
 ghost use Rattle.slip.specs.Slip.{cardFits, slipOk};
 
@@ -16,12 +16,12 @@ pub fn times_fit(this: u64, next: u64) -> bool
     if next < this {
         return false;
     }
-    next <= 253402300799
+    next <= calendar::LAST_SECOND
 }
 
 // Whether a reason is 0 to 10 but not 7, or absent.
 pub fn reason_fits(reason: Reason) -> bool
-    ensures { λ r. ⌜ r ≡ reasonOk reason ⌝ }
+    ensures { λ r. ⌜ r ≡ reasonFits reason ⌝ }
 {
     match reason {
         Reason::Given(n) => {
@@ -49,7 +49,7 @@ fn error_fits(status: u8) -> bool
 
 // Whether the status goes with the number.
 fn status_fits(number: u8, status: u8) -> bool
-    ensures { λ r. ⌜ r ≡ statusOk number status ⌝ }
+    ensures { λ r. ⌜ r ≡ statusFits number status ⌝ }
 {
     if number == 4 {
         return error_fits(status);
@@ -77,7 +77,7 @@ fn revoked_fits(this: u64, next: u64, at: u64, reason: Reason) -> bool
     if !times_fit(this, next) {
         return false;
     }
-    if 253402300799 < at {
+    if calendar::LAST_SECOND < at {
         return false;
     }
     reason_fits(reason)

@@ -60,7 +60,8 @@ fn put_times(kind: u8, card: Card, this: u64, next: u64, out: &mut [u8])
 // Writes the slip of a revoked card, with the octet of its reason.
 fn put_revoked(card: Card, this: u64, next: u64, at: u64, reason: u8, out: &mut [u8])
     requires { ⌜ 87 ≤ length (now out) ⌝ }
-    ensures { λ _. ⌜ now (out .exit) ≡ splice (now (out .entry)) 0 (octetsOf 1 2 ++ (cardOctets card ++ numbersForm (8 ∷ 8 ∷ 8 ∷ 1 ∷ []) (this ∷ next ∷ at ∷ reason ∷ []))) ⌝ }
+    ensures { λ _. ⌜ now (out .exit) ≡ splice (now (out .entry)) 0
+        (octetsOf 1 2 ++ (cardOctets card ++ numbersForm (8 ∷ 8 ∷ 8 ∷ 1 ∷ []) (this ∷ next ∷ at ∷ reason ∷ []))) ⌝ }
 {
     put_times(2, card, this, next, out);
     octets::put_number(out, 78, 8, at);

@@ -114,33 +114,29 @@ module _ (s : List ℕ) (r : Header) (q : r ≡ headerOf s) where
 -- by the first octet, where it is the tag that is wanted or not
 module _ (t d : ℕ) (s : List ℕ) (x : Step) where
   module _ (e : x ≡ unwantedOf (headerOf s)) where
-    pub wanted-shallow : d ≡ 0 → x ≡ stepOf (treeTaggedDec t d s)
+    by-header : ((u h n : ℕ) → headerOf s ≡ Found u h n → Bad 0 ≡ stepOf (cond (eqb u t) (treeDec d s) (bad 0)))
+        → x ≡ stepOf (treeTaggedDec t d s)
     unfolding treeTaggedDec stepOf unwantedOf
-    wanted-shallow z = e ∙ go (headerOf s)
+    by-header f = e ∙ go (headerOf s) refl
+      where
+        go : (y : Header) → headerOf s ≡ y → unwantedOf y ≡ stepOf (wantedOf t (treeDec d) s y)
+        go (Refused p) q = refl
+        go (Found u h n) q = f u h n q
+
+    pub wanted-shallow : d ≡ 0 → x ≡ stepOf (treeTaggedDec t d s)
+    unfolding stepOf
+    wanted-shallow z = by-header (λ u h n q. on (eqb u t))
       where
         on : (b : Bool) → Bad 0 ≡ stepOf (cond b (treeDec d s) (bad 0))
         on true = too-deep d s z
         on false = refl
 
-        go : (y : Header) → unwantedOf y ≡ stepOf (wantedOf t (treeDec d) s y)
-        go (Refused p) = refl
-        go (Found u h n) = on (eqb u t)
-
     pub wanted-none : length s ≡ 0 → x ≡ stepOf (treeTaggedDec t d s)
-    unfolding treeTaggedDec stepOf unwantedOf
-    wanted-none z = e ∙ go (headerOf s) refl
-      where
-        go : (y : Header) → headerOf s ≡ y → unwantedOf y ≡ stepOf (wantedOf t (treeDec d) s y)
-        go (Refused p) q = refl
-        go (Found u h n) q = absurd (omega (arith, header-inside s u h n q))
+    wanted-none z = by-header (λ u h n q. absurd (omega (arith, header-inside s u h n q)))
 
     pub wanted-other : (getD s 0 0 ≡ t → ⊥) → x ≡ stepOf (treeTaggedDec t d s)
-    unfolding treeTaggedDec stepOf unwantedOf
-    wanted-other o = e ∙ go (headerOf s) refl
-      where
-        go : (y : Header) → headerOf s ≡ y → unwantedOf y ≡ stepOf (wantedOf t (treeDec d) s y)
-        go (Refused p) q = refl
-        go (Found u h n) q = rw (ne-eqb u t (λ i. o (header-tag s u h n q ∙ i)))
+    unfolding stepOf
+    wanted-other o = by-header (λ u h n q. rw (ne-eqb u t (λ i. o (header-tag s u h n q ∙ i))))
 
   pub wanted-found : (d ≡ 0 → ⊥) → getD s 0 0 ≡ t → x ≡ stepOf (treeDec d s) → x ≡ stepOf (treeTaggedDec t d s)
   unfolding treeTaggedDec stepOf

@@ -1,2 +1,2 @@
-pub mod TreeViews
+pub mod TreeViewLaws
 pub mod Light

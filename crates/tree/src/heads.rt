@@ -1,30 +1,14 @@
-// Short headers: a tag and a length of one octet, read by a few comparisons. Most elements have one.
+// Short headers, read by a few comparisons. Most elements have one.
 use element::Header;
 ghost use mathlib.Core.Path.{_≡_};
 ghost use Rattle.element.specs.Header.{headerOf};
-ghost use Rattle.tree.specs.Light.{isShort, lightOf};
-
-// Whether the head of s is a tag and a length of one octet, and the element ends inside s.
-fn is_short(s: &[u8]) -> bool
-    ensures { λ r. ⌜ r ≡ isShort (now (s .entry)) ⌝ }
-{
-    if s.len() < 2 {
-        return false;
-    }
-    if 127 < s[1] {
-        return false;
-    }
-    if s.len() - 2 < s[1] as usize {
-        return false;
-    }
-    element::tag_fits(s[0])
-}
+ghost use Rattle.tree.specs.Light.{Light};
 
 // The tag and the length at the head of s.
 pub(crate) fn header_at(s: &[u8]) -> Header
     ensures { λ r. ⌜ r ≡ headerOf (now (s .entry)) ⌝ }
 {
-    if is_short(s) {
+    if element::is_short(s) {
         let tag = s[0];
         let len = s[1] as usize;
         return Header::Found { tag, start: 2, len };
@@ -35,7 +19,7 @@ pub(crate) fn header_at(s: &[u8]) -> Header
 // How many octets the element at the head of s takes, if it is primitive and has a short header, and
 // some depth is left; 0 for any other.
 pub(crate) fn light(s: &[u8], depth: usize) -> usize
-    ensures { λ r. ⌜ r ≡ lightOf depth (now (s .entry)) ⌝ }
+    ensures { λ r. ⌜ Light depth (now (s .entry)) r ⌝ }
 {
     if depth == 0 {
         return 0;
@@ -43,19 +27,12 @@ pub(crate) fn light(s: &[u8], depth: usize) -> usize
     if s.len() < 2 {
         return 0;
     }
-    let tag = s[0];
-    let kind = element::tag_of(tag);
+    let kind = element::tag_of(s[0]);
     if kind.constructed {
         return 0;
     }
-    let len = s[1] as usize;
-    if 127 < len {
-        return 0;
-    }
-    if s.len() - 2 < len {
-        return 0;
-    }
-    if element::tag_fits(tag) {
+    if element::is_short(s) {
+        let len = s[1] as usize;
         return 2 + len;
     }
     0

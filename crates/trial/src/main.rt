@@ -11,7 +11,7 @@ use libc::STDIN_FILENO;
 // The line of the desk program.
 fn say_desk(body: &[u8]) {
     let mut line = [0u8; 175];
-    let n = deskline::line_for(body, &mut line);
+    let n = desk_line::line_for(body, &mut line);
     say::say(&line[..n]);
 }
 

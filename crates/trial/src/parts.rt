@@ -1,18 +1,18 @@
 // The operations that ask for parts of a response.
 use crate::say;
-use response::Judged;
+use read_response::Judged;
 use show::Entry;
-use walked::Stepped;
+use walk_rules::Stepped;
 
 // Why a response is refused.
 fn say_why(s: &[u8]) {
-    let why = response::refuse(s);
+    let why = read_response::refuse(s);
     say::say_refusal(why.number, why.status);
 }
 
 // The signed part: where it starts, and the size of the part that is shown.
 pub(crate) fn say_signed(s: &[u8]) {
-    let judged = response::judge(s);
+    let judged = read_response::judge(s);
     if let Judged::Basic(parts) = judged {
         let part = show::signed_part(s);
         let span = parts.signed;
@@ -24,7 +24,7 @@ pub(crate) fn say_signed(s: &[u8]) {
 
 // The signature, likewise.
 pub(crate) fn say_signature(s: &[u8]) {
-    let judged = response::judge(s);
+    let judged = read_response::judge(s);
     if let Judged::Basic(parts) = judged {
         let part = show::signature(s);
         let span = parts.signature;

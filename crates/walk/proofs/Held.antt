@@ -38,13 +38,13 @@ use Rattle.show.specs.Shown.{entryOf}
 use Rattle.show.specs.declared.Entry.{Entry}
 use Rattle.show.proofs.Entry as S
 use Rattle.show.proofs.Entry.Laws as S′
-use Rattle.walked.specs.Step.{partIn, partOf, placeOf, stepOf}
-use Rattle.walked.specs.declared.Step.{Step}
-use Rattle.walked.specs.declared.Walk.{Walk}
-use Rattle.walked.proofs.Walk as T
-use Rattle.walked.proofs.Walk.Laws as T′
-use Rattle.places.proofs.step_at as step
-use Rattle.places.proofs.part_in as part
+use Rattle.walk_rules.specs.Step.{partIn, partOf, placeNext, walkStep}
+use Rattle.walk_rules.specs.declared.Advance.{Advance}
+use Rattle.walk_rules.specs.declared.Walk.{Walk}
+use Rattle.walk_rules.proofs.Walk as T
+use Rattle.walk_rules.proofs.Walk.Laws as T′
+use Rattle.walk_steps.proofs.step_at as step
+use Rattle.walk_steps.proofs.part_in as part
 use Rattle.walk.proofs.Made.{says-val}
 
 module _ {M : Type 1} (𝓤 : URA M) (H : Heap 𝓤) (A : Atoms 𝓤) (mem : Memory → SProp 𝓤) (run : Routine → Fun 𝓤) where
@@ -55,21 +55,21 @@ module _ {M : Type 1} (𝓤 : URA M) (H : Heap 𝓤) (A : Atoms 𝓤) (mem : Mem
   PartIn = tripleOf 𝓤 H A part.signature (part.spec 𝓤 H A mem run)
 
 -- what each ensures, of a walk's response, its place, and what is said
-abbrev pub SaidStep : Walk → Step → Type 0
-SaidStep d t = t ≡ stepOf (now (d .response)) (d .place)
+abbrev pub SaidStep : Walk → Advance → Type 0
+SaidStep d t = t ≡ walkStep (now (d .response)) (d .place)
 
 abbrev pub SaidPart : Walk → Entry → RefT (List ℕ) → Type 0
 SaidPart d x r = now r ≡ partIn (now (d .response)) x
 
 -- so that a step is as the definitions of a walk have it
-module _ (d : Walk) (t : Step) (e : SaidStep d t) where
+module _ (d : Walk) (t : Advance) (e : SaidStep d t) where
   pub said-says : t .says ≡ entryOf (now (d .response)) (d .place)
-  unfolding stepOf
-  said-says = ap (λ (x : Step). x .says) e
+  unfolding walkStep
+  said-says = ap (λ (x : Advance). x .says) e
 
-  pub said-place : t .place ≡ placeOf (now (d .response)) (d .place)
-  unfolding stepOf
-  said-place = ap (λ (x : Step). x .place) e
+  pub said-place : t .place ≡ placeNext (now (d .response)) (d .place)
+  unfolding walkStep
+  said-place = ap (λ (x : Advance). x .place) e
 
   pub said-octets : (r : RefT (List ℕ)) → SaidPart d (t .says) r → now r ≡ partOf (now (d .response)) (d .place)
   unfolding partOf
@@ -119,7 +119,7 @@ module _ {M : Type 1} (𝓤 : URA M) (H : Heap 𝓤) (A : Atoms 𝓤) (W : Given
   lent-step fits = lent (StepAt 𝓤 H A mem run .pre to-step) (qed W (‵ Response ∷ token ∷ []) ∵
       nothing ! $ owned ! usize (Is usize) (uint-makes 𝓤 H A W w64) (d .place) _ (refl, fits) $ fjoin ! $ move ! (1 ∷ 0 ∷ []) $ fjoin ! $ move ! (1 ∷ 0 ∷ []) $ join ! $ frame ! $ done !)
 
-  pub told-step : (t : Step) → ent 𝓤 (ensured 𝓤 H A step.ended (step.clauses 𝓤 H A mem run) (α .lft, tt) (d .response, (d .place, tt)) tt t) (fact 𝓤 (SaidStep d t))
+  pub told-step : (t : Advance) → ent 𝓤 (ensured 𝓤 H A step.ended (step.clauses 𝓤 H A mem run) (α .lft, tt) (d .response, (d .place, tt)) tt t) (fact 𝓤 (SaidStep d t))
   told-step t = exE 𝓤 _ (λ ws. snd∗ 𝓤 (sem 𝓤 H A (lasts step.ended (α .lft, tt) (d .response, (d .place, tt)) ws)) (fact 𝓤 (SaidStep d t)))
 
   -- ── `part_in`: the response and what is said ──

@@ -30,9 +30,9 @@ use denote.Struct.Declared.{Declared}
 use denote.Struct.Laws as LL
 use denote.Struct.Rest.{own-shut}
 use denote.Struct.Steps.{spelt}
-use Rattle.walked.specs.declared.Walk.{Walk}
-use Rattle.walked.proofs.Walk as T
-use Rattle.walked.proofs.Walk.Laws as T′
+use Rattle.walk_rules.specs.declared.Walk.{Walk}
+use Rattle.walk_rules.proofs.Walk as T
+use Rattle.walk_rules.proofs.Walk.Laws as T′
 
 -- the loan's lifetime ends no later than the response's
 pub over : (a : ℕ) (κ : Lft) → Incl (a ∷ κ) κ

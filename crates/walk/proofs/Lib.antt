@@ -1,3 +1,4 @@
 pub mod Made
 pub mod Held
 pub mod Lent
+pub mod Stepping

@@ -25,15 +25,15 @@ use denote.Struct.Rest.{own-shut}
 use Rattle.show.specs.declared.Entry.{Entry}
 use Rattle.show.proofs.Entry as S
 use Rattle.show.proofs.Entry.Laws as S′
-use Rattle.walked.specs.declared.Handed.{Handed}
-use Rattle.walked.specs.declared.Step.{Step}
-use Rattle.walked.specs.declared.Stepped.{Stepped}
-use Rattle.walked.proofs.Handed as R
-use Rattle.walked.proofs.Handed.Laws as R′
-use Rattle.walked.proofs.Step as P
-use Rattle.walked.proofs.Step.Laws as P′
-use Rattle.walked.proofs.Stepped as Q
-use Rattle.walked.proofs.Stepped.Laws as Q′
+use Rattle.walk_rules.specs.declared.Handed.{Handed}
+use Rattle.walk_rules.specs.declared.Advance.{Advance}
+use Rattle.walk_rules.specs.declared.Stepped.{Stepped}
+use Rattle.walk_rules.proofs.Handed as R
+use Rattle.walk_rules.proofs.Handed.Laws as R′
+use Rattle.walk_rules.proofs.Advance as P
+use Rattle.walk_rules.proofs.Advance.Laws as P′
+use Rattle.walk_rules.proofs.Stepped as Q
+use Rattle.walk_rules.proofs.Stepped.Laws as Q′
 
 -- the machine values of what a step says and of its part
 abbrev pub says-val : Entry → Val
@@ -43,10 +43,10 @@ abbrev pub part-val : RefT (List ℕ) → Val
 part-val r = sliceVal (r .ptr) (length (r .now))
 
 -- ── a `Step` taken apart ──
-abbrev pub step-val : Step → Val
+abbrev pub step-val : Advance → Val
 step-val t = vstruct (vcons (says-val (t .says)) (vcons (vint w64 (t .place)) vnil))
 
-module _ (t : Step) (u : Val) (is : Is P.the-row t (u ∷ [])) where
+module _ (t : Advance) (u : Val) (is : Is P.the-row t (u ∷ [])) where
   pub step-is : u ≡ step-val t
   step-is = ap only (LL.tells P.the-type P′.the-laws t (u ∷ []) is)
 

@@ -1,10 +1,10 @@
 // A walk made, and stepped.
-use walked::Handed;
-use walked::Stepped;
-use walked::Walk;
+use walk_rules::Handed;
+use walk_rules::Stepped;
+use walk_rules::Walk;
 ghost use mathlib.Core.Path.{_≡_};
-ghost use Rattle.walked.specs.Step.{steppedOf};
-ghost use Rattle.walked.specs.Walked.{startOf, sayOf, handOf, movedOf};
+ghost use Rattle.walk_rules.specs.Step.{steppedOf};
+ghost use Rattle.walk_rules.specs.Walked.{startOf, sayOf, handOf, movedOf};
 
 // A walk at the first entry.
 pub fn start<'a>(response: &'a [u8]) -> Walk<'a>
@@ -18,8 +18,8 @@ pub fn start<'a>(response: &'a [u8]) -> Walk<'a>
 pub fn next<'s, 'a>(w: &'s mut Walk<'a>) -> Handed<'a>
     ensures { λ r. ⌜ (r .says ≡ sayOf (now (w .entry))) × (now (r .part) ≡ handOf (now (w .entry))) × (now (w .exit) ≡ movedOf (now (w .entry))) ⌝ }
 {
-    let step = places::step_at(w.response, w.place);
-    let part = places::part_in(w.response, step.says);
+    let step = walk_steps::step_at(w.response, w.place);
+    let part = walk_steps::part_in(w.response, step.says);
     w.place = step.place;
     Handed {
         says: step.says,

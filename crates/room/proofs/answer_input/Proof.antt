@@ -1,5 +1,5 @@
 -- `room::answer_input` meets its contract: what is kept is answered as the whole input. Assumes nothing.
-use Rattle.intake.specs.ReadLaws.{end-counted}
+use Rattle.desk_intake.specs.ReadLaws.{end-counted}
 use Rattle.room.proofs.Cases.{answers-end, answers-more, answers-failed, inside}
 use borrow.Author.Needs.{needs}
 use Rattle.room.proofs.answer_input.Statement.{statement}

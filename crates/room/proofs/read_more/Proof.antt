@@ -1,6 +1,6 @@
 -- `room::read_more` meets its contract: what came is kept after what was kept. Assumes nothing.
 use borrow.Author.Needs.{needs}
-use Rattle.intake.specs.ReadLaws.{came-more}
+use Rattle.desk_intake.specs.ReadLaws.{came-more}
 use Rattle.room.proofs.read_more.Statement.{statement}
 use Rattle.room.proofs.read_more.Tie as tie
 

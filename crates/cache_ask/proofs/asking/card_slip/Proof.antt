@@ -4,14 +4,5 @@ use Rattle.cache_ask.proofs.Cases.{card-slip}
 use Rattle.cache_ask.proofs.asking.card_slip.Statement.{statement}
 use Rattle.cache_ask.proofs.asking.card_slip.Tie as tie
 
-slice-aggregate-write-slip : tie.Need-slice-aggregate-write-slip
-slice-aggregate-write-slip c = search needs
-
-write-slip-requires : tie.Need-write-slip-requires
-write-slip-requires c κs = search needs
-
-returns : tie.Need-returns
-returns c = search (length-unmapped, card-slip)
-
 pub card-slip-spec : {M : Type 1} → statement M
-card-slip-spec = tie.close (tie.spec slice-aggregate-write-slip write-slip-requires returns)
+card-slip-spec = tie.close (tie.spec (λ c. search needs) (λ c κs. search needs) (λ c. search (length-unmapped, card-slip)))

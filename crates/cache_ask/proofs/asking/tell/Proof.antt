@@ -3,8 +3,5 @@ use Rattle.cache_ask.proofs.Cases.{tell-says}
 use Rattle.cache_ask.proofs.asking.tell.Statement.{statement}
 use Rattle.cache_ask.proofs.asking.tell.Tie as tie
 
-returns : tie.Need-returns
-returns c = search tell-says
-
 pub tell-spec : {M : Type 1} → statement M
-tell-spec = tie.close (tie.spec returns)
+tell-spec = tie.close (tie.spec (λ c. search tell-says))

@@ -1,5 +1,5 @@
 -- `cache_line::answers::answer_ask` meets its contract. Assumes nothing.
-use Rattle.cache_line.proofs.Cases.{slip-short, ask-here, ask-none, ask-refused}
+use Rattle.cache_line.proofs.AskCases.{slip-short, ask-here, ask-none, ask-refused}
 use borrow.Author.Needs.{needs}
 use Rattle.cache_line.proofs.answers.answer_ask.Statement.{statement}
 use Rattle.cache_line.proofs.answers.answer_ask.Tie as tie

@@ -1,5 +1,5 @@
 -- `cache_line::answers::answer_list` meets its contract. Assumes nothing.
-use Rattle.cache_line.proofs.Cases.{list-19, list-clock, list-paper, list-marks}
+use Rattle.cache_line.proofs.AskCases.{list-19, list-clock, list-paper, list-marks}
 use borrow.Author.Needs.{needs}
 use Rattle.cache_line.proofs.answers.answer_list.Statement.{statement}
 use Rattle.cache_line.proofs.answers.answer_list.Tie as tie

@@ -1,5 +1,5 @@
 -- `cache_line::answers::answer_same` meets its contract. Assumes nothing.
-use Rattle.cache_line.proofs.Cases.{same-ask, same-list, same-other}
+use Rattle.cache_line.proofs.AskCases.{same-ask, same-list, same-other}
 use borrow.Author.Needs.{needs}
 use Rattle.cache_line.proofs.answers.answer_same.Statement.{statement}
 use Rattle.cache_line.proofs.answers.answer_same.Tie as tie

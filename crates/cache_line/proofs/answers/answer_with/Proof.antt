@@ -1,5 +1,5 @@
 -- `cache_line::answers::answer_with` meets its contract. Assumes nothing.
-use Rattle.cache_line.proofs.Cases.{with-file, with-file-cache, with-same-cache}
+use Rattle.cache_line.proofs.AskCases.{with-file, with-file-cache, with-same-cache}
 use borrow.Author.Needs.{needs}
 use Rattle.cache_line.proofs.answers.answer_with.Statement.{statement}
 use Rattle.cache_line.proofs.answers.answer_with.Tie as tie

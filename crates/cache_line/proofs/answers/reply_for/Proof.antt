@@ -1,5 +1,5 @@
 -- `cache_line::answers::reply_for` meets its contract. Assumes nothing.
-use Rattle.cache_line.proofs.Cases.{input-new, input-new-cache, input-short, input-short-cache, input-first, input-header, input-inside, input-line, input-cache}
+use Rattle.cache_line.proofs.InputCases.{input-new, input-new-cache, input-short, input-short-cache, input-first, input-header, input-inside, input-line, input-cache}
 use borrow.Author.Needs.{needs}
 use Rattle.cache_line.proofs.answers.reply_for.Statement.{statement}
 use Rattle.cache_line.proofs.answers.reply_for.Tie as tie

@@ -4,15 +4,12 @@ use borrow.Author.Needs.{needs}
 use Rattle.cache_place.proofs.slips.serial_fits.Statement.{statement}
 use Rattle.cache_place.proofs.slips.serial_fits.Tie as tie
 
-cast-field-fits : tie.Need-cast-field-fits
-cast-field-fits c = omega (arith, c .shared-slice-known2 .given 41)
-
 pub serial-fits-spec : {M : Type 1} → statement M
 serial-fits-spec =
     tie.close
     (tie.spec
     (λ c. search needs)
-    cast-field-fits
+    (λ c. omega (arith, c .shared-slice-known2 .given 41))
     (λ c. search needs)
     (λ c. search needs)
     (λ c. search needs)

@@ -1,6 +1,6 @@
 -- `cache_place::spots::place_fits` meets its contract. Assumes nothing.
 use borrow.Author.Needs.{needs}
-use Rattle.cache_place.proofs.Cases.{place-none, place-zero, end-inside, place-broken, place-tail}
+use Rattle.cache_place.proofs.PlaceCases.{place-none, place-zero, end-inside, place-broken, place-tail}
 use Rattle.cache_place.proofs.spots.place_fits.Statement.{statement}
 use Rattle.cache_place.proofs.spots.place_fits.Tie as tie
 

@@ -1,7 +1,7 @@
 -- `cache_place::spots::rest_zero` meets its contract. Assumes nothing.
 use borrow.Author.Needs.{needs}
 use denote.Ref.{now}
-use Rattle.cache_place.proofs.Cases.{rest-none, rest-any, rest-other, rest-last}
+use Rattle.cache_place.proofs.PlaceCases.{rest-none, rest-any, rest-other, rest-last}
 use Rattle.cache_place.proofs.spots.rest_zero.Statement.{statement}
 use Rattle.cache_place.proofs.spots.rest_zero.Tie as tie
 

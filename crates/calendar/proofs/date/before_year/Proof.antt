@@ -7,7 +7,7 @@ use Rattle.calendar.proofs.date.before_year.Tie as tie
 
 returns : tie.Need-returns
 unfolding formula
-returns c = years-days (c .args .y) (c .pre .0)
+returns c = years-days (c .args .y) (c .pre)
 
 pub before-year-spec : {M : Type 1} → statement M
 before-year-spec =

@@ -11,23 +11,14 @@ returns c = serial-empty _ (omega arith)
 returns-2 : tie.Need-returns-2
 returns-2 c = serial-long _ (omega arith)
 
-shared-slice-read-if3 : tie.Need-shared-slice-read-if3
-shared-slice-read-if3 c = search needs
-
 returns-3 : tie.Need-returns-3
 returns-3 c = serial-high _ (omega arith)
 
 returns-4 : tie.Need-returns-4
 returns-4 c = serial-one _ (omega arith) (omega arith)
 
-shared-slice-read-if5 : tie.Need-shared-slice-read-if5
-shared-slice-read-if5 c = search needs
-
 returns-5 : tie.Need-returns-5
 returns-5 c = serial-plain _ (λ e. omega arith) (omega arith) (omega arith) (c .if5 .taken)
-
-shared-slice-read-result : tie.Need-shared-slice-read-result
-shared-slice-read-result c = search needs
 
 returns-6 : tie.Need-returns-6
 returns-6 c = serial-zero _ (λ e. omega arith) (omega arith) (omega arith) (λ e. omega arith)
@@ -38,10 +29,10 @@ serial-fits-spec =
     (tie.spec
     returns
     returns-2
-    shared-slice-read-if3
+    (λ c. search needs)
     returns-3
     returns-4
-    shared-slice-read-if5
+    (λ c. search needs)
     returns-5
-    shared-slice-read-result
+    (λ c. search needs)
     returns-6)

@@ -1,20 +1,7 @@
 -- `desk_c::shown::desk_algorithm` meets its contract. Assumes nothing.
 use borrow.Author.Needs.{needs}
-use Rattle.desk_c.proofs.Cases.{told-number, told-part}
 use Rattle.desk_c.proofs.shown.desk_algorithm.Statement.{statement}
 use Rattle.desk_c.proofs.shown.desk_algorithm.Tie as tie
 
-judge-requires : tie.Need-judge-requires
-judge-requires c κs = search needs
-
-parts-of-requires : tie.Need-parts-of-requires
-parts-of-requires c κs = search needs
-
-tell-requires : tie.Need-tell-requires
-tell-requires c κs = search needs
-
-returns : tie.Need-returns
-returns c = (search told-number, (search (told-part (λ p. p .algorithm .start)), search (told-part (λ p. p .algorithm .len))))
-
 pub desk-algorithm-spec : {M : Type 1} → statement M
-desk-algorithm-spec = tie.close (tie.spec judge-requires parts-of-requires tell-requires returns)
+desk-algorithm-spec = tie.close (tie.spec (λ c κs. search needs) (λ c κs. search needs) (λ c κs. search needs) (λ c. (cc, (cc, cc))))

@@ -10,12 +10,9 @@ returns : tie.Need-returns
 unfolding shortest
 returns c = simp (lt-ltb _ _ (c .if1 .taken))
 
-length-count-requires : tie.Need-length-count-requires
-length-count-requires c κs = search needs
-
 returns-2 : tie.Need-returns-2
 unfolding shortest
 returns-2 c = simp (le-ltb _ _ (c .before .if1 .left), ← c .length-count .ensures)
 
 pub is-shortest-spec : {M : Type 1} → statement M
-is-shortest-spec = tie.close (tie.spec returns length-count-requires returns-2)
+is-shortest-spec = tie.close (tie.spec returns (λ c κs. search needs) returns-2)

@@ -4,11 +4,5 @@ use Rattle.slip.proofs.RuleCases.{times-reversed, times-last}
 use Rattle.slip.proofs.rules.times_fit.Statement.{statement}
 use Rattle.slip.proofs.rules.times_fit.Tie as tie
 
-returns : tie.Need-returns
-returns c = search times-reversed
-
-returns-2 : tie.Need-returns-2
-returns-2 c = search times-last
-
 pub times-fit-spec : {M : Type 1} → statement M
-times-fit-spec = tie.close (tie.spec returns returns-2)
+times-fit-spec = tie.close (tie.spec (λ c. search times-reversed) (λ c. search times-last))

@@ -5,14 +5,5 @@ use Rattle.slip.proofs.KindCases.{size-known}
 use Rattle.slip.proofs.sizes.slip_size.Statement.{statement}
 use Rattle.slip.proofs.sizes.slip_size.Tie as tie
 
-kind-of-requires : tie.Need-kind-of-requires
-kind-of-requires c κs = search needs
-
-size-of-requires : tie.Need-size-of-requires
-size-of-requires c κs = search needs
-
-returns : tie.Need-returns
-returns c = search (length-unmapped, size-known)
-
 pub slip-size-spec : {M : Type 1} → statement M
-slip-size-spec = tie.close (tie.spec kind-of-requires size-of-requires returns)
+slip-size-spec = tie.close (tie.spec (λ c κs. search needs) (λ c κs. search needs) (λ c. search (length-unmapped, size-known)))

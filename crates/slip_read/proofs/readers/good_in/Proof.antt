@@ -5,14 +5,5 @@ use Rattle.slip_read.proofs.BodyCases.{good-said}
 use Rattle.slip_read.proofs.readers.good_in.Statement.{statement}
 use Rattle.slip_read.proofs.readers.good_in.Tie as tie
 
-value-at-requires : tie.Need-value-at-requires
-value-at-requires c κs = search needs
-
-value-at-requires-2 : tie.Need-value-at-requires-2
-value-at-requires-2 c κs = search needs
-
-returns : tie.Need-returns
-returns c = search good-said
-
 pub good-in-spec : {M : Type 1} → statement M
-good-in-spec = tie.close (tie.spec value-at-requires value-at-requires-2 returns)
+good-in-spec = tie.close (tie.spec (λ c κs. search needs) (λ c κs. search needs) (λ c. search good-said))

@@ -5,17 +5,5 @@ use Rattle.slip_write.proofs.PutCases.{put-head}
 use Rattle.slip_write.proofs.puts.put_head.Statement.{statement}
 use Rattle.slip_write.proofs.puts.put_head.Tie as tie
 
-put-number-requires : tie.Need-put-number-requires
-put-number-requires c κs = search needs
-
-put-card-requires : tie.Need-put-card-requires
-put-card-requires c κs = search needs
-
-same-length : tie.Need-same-length
-same-length c = search needs
-
-returns : tie.Need-returns
-returns c = search put-head
-
 pub put-head-spec : {M : Type 1} → statement M
-put-head-spec = tie.close (tie.spec put-number-requires put-card-requires same-length returns)
+put-head-spec = tie.close (tie.spec (λ c κs. search needs) (λ c κs. search needs) (λ c. search needs) (λ c. search put-head))

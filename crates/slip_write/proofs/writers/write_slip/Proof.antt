@@ -4,17 +4,8 @@ use Rattle.slip_write.proofs.RuleCases.{own-answer, own-buffer}
 use Rattle.slip_write.proofs.writers.write_slip.Statement.{statement}
 use Rattle.slip_write.proofs.writers.write_slip.Tie as tie
 
-refusal-of-requires : tie.Need-refusal-of-requires
-refusal-of-requires c κs = search needs
-
-write-with-requires : tie.Need-write-with-requires
-write-with-requires c κs = search needs
-
-same-length : tie.Need-same-length
-same-length c = search needs
-
 returns : tie.Need-returns
 returns c = (search own-answer, search own-buffer)
 
 pub write-slip-spec : {M : Type 1} → statement M
-write-slip-spec = tie.close (tie.spec refusal-of-requires write-with-requires same-length returns)
+write-slip-spec = tie.close (tie.spec (λ c κs. search needs) (λ c κs. search needs) (λ c. search needs) returns)

@@ -47,20 +47,20 @@ use denote.Triple.Spec.{Meets, tripleOf}
 use denote.Triple.Table.{entered, cited}
 use denote.Triple.Walked.{says, Stays, stay-ref, walkOf, goes-ref, Walks, ends-at, walked, walk-meets}
 use Rattle.show.proofs.Entry as S
-use Rattle.walked.specs.declared.Step.{Step}
-use Rattle.walked.specs.declared.Walk.{Walk}
-use Rattle.walked.proofs.Step as P
-use Rattle.walked.proofs.Step.Laws as P′
-use Rattle.walked.proofs.Walk as T
-use Rattle.walked.proofs.Walk.Laws as T′
-use Rattle.places.proofs.step_at as step
-use Rattle.places.proofs.step_at.Symbol as step-def
-use Rattle.places.proofs.step_at.Symbol.{name as #places·step-at}
-use Rattle.places.proofs.step_at.Met as step-thm
-use Rattle.places.proofs.part_in as part
-use Rattle.places.proofs.part_in.Symbol as part-def
-use Rattle.places.proofs.part_in.Symbol.{name as #places·part-in}
-use Rattle.places.proofs.part_in.Met as part-thm
+use Rattle.walk_rules.specs.declared.Advance.{Advance}
+use Rattle.walk_rules.specs.declared.Walk.{Walk}
+use Rattle.walk_rules.proofs.Advance as P
+use Rattle.walk_rules.proofs.Advance.Laws as P′
+use Rattle.walk_rules.proofs.Walk as T
+use Rattle.walk_rules.proofs.Walk.Laws as T′
+use Rattle.walk_steps.proofs.step_at as step
+use Rattle.walk_steps.proofs.step_at.Symbol as step-def
+use Rattle.walk_steps.proofs.step_at.Symbol.{name as #steps·step-at}
+use Rattle.walk_steps.proofs.step_at.Met as step-thm
+use Rattle.walk_steps.proofs.part_in as part
+use Rattle.walk_steps.proofs.part_in.Symbol as part-def
+use Rattle.walk_steps.proofs.part_in.Symbol.{name as #steps·part-in}
+use Rattle.walk_steps.proofs.part_in.Met as part-thm
 use Rattle.walk.proofs.Made.{says-val, part-val, step-is, step-says, step-fits, made, made-val, part-is, made-typing, made-owns}
 use Rattle.walk.proofs.Held.{StepAt, PartIn, SaidStep, SaidPart, said-says, said-octets, said-place, to-step, lent-step, told-step, to-part, lent-part, told-part}
 use Rattle.walk.proofs.walks.next.Key.{name as #walk·next}
@@ -126,10 +126,10 @@ module _ {M : Type 1} (𝓤 : URA M) (H : Heap 𝓤) (A : Atoms 𝓤) (W : Given
   again n ok = qed W (‵ Own ∷ []) ∵ owned ! usize (Is usize) (uint-makes 𝓤 H A W w64) n _ (refl, ok) $ move ! (1 ∷ 0 ∷ []) $ by ! (own-put 𝓤 H A W D L 1 vd n mach)
 
   -- at exit what is said and the part are put together
-  abbrev Last : Step → RefT (List ℕ) → List (Item 𝓤)
+  abbrev Last : Advance → RefT (List ℕ) → List (Item 𝓤)
   Last t r = ‵ (fobs γ (B κ′ .coded .code (h′ (t .place)))) ∷ ‵ (fbor κ (Body (mem (B κ′)) b o γ)) ∷ ‵ (flft κ q) ∷ ‵ (Part .own r (part-val r ∷ [])) ∷ token ∷ []
 
-  exits : (t : Step) (r : RefT (List ℕ)) → Is S.the-row (t .says) (says-val (t .says) ∷ []) → SaidStep h t → SaidPart h (t .says) r → ent 𝓤 (⋆ 𝓤 H A (Last t r)) (Post (made-val (t .says) r))
+  exits : (t : Advance) (r : RefT (List ℕ)) → Is S.the-row (t .says) (says-val (t .says) ∷ []) → SaidStep h t → SaidPart h (t .says) r → ent 𝓤 (⋆ 𝓤 H A (Last t r)) (Post (made-val (t .says) r))
   exits t r is e e₁ =
       qed W (Last t r) ∵
       suffices ! _ (ends-at 𝓤 H A me.ended stayed (me.clauses 𝓤 H A at-mem run) W (((κ, (κ′, tt)), (q, (q′, tt)), bounds, x, at), tt) (made-val (t .says) r) (made (t .says) r) (h′ (t .place), tt) (tt, tt)) $
@@ -141,7 +141,7 @@ module _ {M : Type 1} (𝓤 : URA M) (H : Heap 𝓤) (A : Atoms 𝓤) (W : Given
   typing : Is (B κ′) h (mach ∷ []) → Holds (hasTy (T′.mir (named 1)) mach) × WT mach
   typing was = LL.lawful D L 𝓤 H A W .typed h _ was .0
 
-  module _ (C : Calls 𝓤 H) (Λ : Loops 𝓤 H) (fm : FmC 𝓤 H (W .laws) C) (known-step : Triple 𝓤 (C #places·step-at) (StepAt 𝓤 H A at-mem run)) (known-part : Triple 𝓤 (C #places·part-in) (PartIn 𝓤 H A at-mem run)) where
+  module _ (C : Calls 𝓤 H) (Λ : Loops 𝓤 H) (fm : FmC 𝓤 H (W .laws) C) (known-step : Triple 𝓤 (C #steps·step-at) (StepAt 𝓤 H A at-mem run)) (known-part : Triple 𝓤 (C #steps·part-in) (PartIn 𝓤 H A at-mem run)) where
     walk : ent 𝓤 (onEntry 𝓤 H A me.signature (κ, (κ′, tt)) (q, (q′, tt)) x at) (WpFn 𝓤 H C Λ code.function (vptr b o ∷ []) Post)
     walk =
         qed W ((‵ (flft κ q) ⊛ ‵ (flft κ′ q′) ⊛ ‵ ftrue) ∷ ‵ (owns (MutRef (named 0) κ (B κ′) ∷ []) x at) ∷ []) ∵ enter ! C Λ code.function (vptr b o ∷ []) _ $
@@ -155,7 +155,7 @@ module _ {M : Type 1} (𝓤 : URA M) (H : Heap 𝓤) (A : Atoms 𝓤) (W : Given
         assigns ! (of-opd ! (load ! (from ! (hop ! (look ! 15 refl) (fld ! refl (stop !)))) (look-in ! 0 (sub ! 1 refl (whole !))))) (from ! (stop !)) (init ! 7 refl (tt, typing was .1 .1 .0)) $
         move ! (1 ∷ 5 ∷ []) $ use2 W (raw (StepAt 𝓤 H A at-mem run .pre (to-step 𝓤 H A W at-mem run (α κ′) q′ h)) ⊛ ‵ Own) (lent-step 𝓤 H A W at-mem run (α κ′) q′ h (typing was .1 .1 .0 .fits)) $ split ! $
         calls-at ! fm (StepAt 𝓤 H A at-mem run) known-step (to-step 𝓤 H A W at-mem run (α κ′) q′ h) (and-then ! (load ! (from ! (stop !)) (look ! 9 refl)) (and-then ! (load ! (from ! (stop !)) (look ! 7 refl)) (no-more !))) (λ u.
-        use1 W (later (some (λ (t : Step). (token ⊛ ‵ (P.the-row .own t (u ∷ []))) ⊛ raw (ensured 𝓤 H A step.ended (step.clauses 𝓤 H A at-mem run) (κ′, tt) (h .response, (h .place, tt)) tt t)))) (id⊢ 𝓤 _) $ await ! tt $ pick ! (λ t.
+        use1 W (later (some (λ (t : Advance). (token ⊛ ‵ (P.the-row .own t (u ∷ []))) ⊛ raw (ensured 𝓤 H A step.ended (step.clauses 𝓤 H A at-mem run) (κ′, tt) (h .response, (h .place, tt)) tt t)))) (id⊢ 𝓤 _) $ await ! tt $ pick ! (λ t.
         split ! $ move ! (1 ∷ []) $ use1 W (raw (fact 𝓤 (SaidStep h t))) (told-step 𝓤 H A W at-mem run (α κ′) q′ h t) $ heard ! (SaidStep h t) (λ e. split ! $ move ! (1 ∷ []) $
         facts ! P.the-row (Is P.the-row) (shows 𝓤 H A P.the-row) t (u ∷ []) (λ is.
         -- ['a's token; what a Walk owns; the struct's cell; the open borrow; obs; auth; nothing; _5; …; _4; …; _3; …; room for _2; …; _1; …; room for _0; …]
@@ -180,12 +180,12 @@ module _ {M : Type 1} (𝓤 : URA M) (H : Heap 𝓤) (A : Atoms 𝓤) (W : Given
         move ! (16 ∷ 17 ∷ []) $ free1 ! $ move ! (14 ∷ 15 ∷ []) $ free1 ! $ move ! (12 ∷ 13 ∷ []) $ free1 ! $ move ! (10 ∷ 11 ∷ []) $ free1 ! $ move ! (8 ∷ 9 ∷ []) $ free1 ! $ move ! (6 ∷ 7 ∷ []) $ free1 ! $ free0 ! $ keep ! (0 ∷ 1 ∷ 2 ∷ 3 ∷ 4 ∷ []) $ by ! (exits t r (step-says t u is) e e₁))))))))))))))))))
 
 module _ {M : Type 1} (𝓤 : URA M) (H : Heap 𝓤) (A : Atoms 𝓤) (W : Given 𝓤 H A) (mem : Memory → SProp 𝓤) (run : Routine → Fun 𝓤) where
-  next-walks : (C : Calls 𝓤 H) (Λ : Loops 𝓤 H) → FmC 𝓤 H (W .laws) C → Triple 𝓤 (C #places·step-at) (StepAt 𝓤 H A mem run) → Triple 𝓤 (C #places·part-in) (PartIn 𝓤 H A mem run) → Walks 𝓤 H A me.ended stayed (WpFn 𝓤 H C Λ code.function) (me.clauses 𝓤 H A mem run)
+  next-walks : (C : Calls 𝓤 H) (Λ : Loops 𝓤 H) → FmC 𝓤 H (W .laws) C → Triple 𝓤 (C #steps·step-at) (StepAt 𝓤 H A mem run) → Triple 𝓤 (C #steps·part-in) (PartIn 𝓤 H A mem run) → Walks 𝓤 H A me.ended stayed (WpFn 𝓤 H C Λ code.function) (me.clauses 𝓤 H A mem run)
   next-walks C Λ fm known-step known-part = walked 𝓤 H A me.ended stayed (me.clauses 𝓤 H A mem run) (WpFn 𝓤 H C Λ code.function) (λ κs. (ptr-vals, tt)) (λ κs. (mut-tells (named 0) (κs .0) (B (κs .1 .0)), tt))
       (λ κs qs bounds a g are. via 𝓤 _ (fst∗ 𝓤 _ (emp 𝓤)) (walk 𝓤 H A W mem run (κs .0) (κs .1 .0) (qs .0) (qs .1 .0) bounds (a .0 .ptr .0) (a .0 .ptr .1) (a .0 .name) (a .0 .now) C Λ fm known-step known-part))
 
 next-meets : {M : Type 1} (𝓤 : URA M) (H : Heap 𝓤) (A : Atoms 𝓤) (W : Given 𝓤 H A) (mem : Memory → SProp 𝓤) (run : Routine → Fun 𝓤) (𝓣 : Tables 𝓤 H)
-    → Triple 𝓤 (𝓣 .C #places·step-at) (StepAt 𝓤 H A mem run) → Triple 𝓤 (𝓣 .C #places·part-in) (PartIn 𝓤 H A mem run)
+    → Triple 𝓤 (𝓣 .C #steps·step-at) (StepAt 𝓤 H A mem run) → Triple 𝓤 (𝓣 .C #steps·part-in) (PartIn 𝓤 H A mem run)
     → Meets 𝓤 H A me.signature (WpFn 𝓤 H (𝓣 .C) (𝓣 .Λ) code.function) (me.spec 𝓤 H A mem run)
 next-meets 𝓤 H A W mem run 𝓣 known-step known-part = walk-meets 𝓤 H A me.ended stayed W (goes-ref 𝓤 H A W 2 0 tt behind, tt) (me.clauses 𝓤 H A mem run) (WpFn 𝓤 H (𝓣 .C) (𝓣 .Λ) code.function) (WpFn-mono 𝓤 H (W .laws) 𝓣 code.function)
     (next-walks 𝓤 H A W mem run (𝓣 .C) (𝓣 .Λ) (fmOf 𝓤 H (W .laws) 𝓣) known-step known-part)
@@ -196,5 +196,5 @@ next-spec 𝓤 H 𝓜 𝓖 𝓡 =
     entered 𝓤 H (tripleOf 𝓤 H (𝓖 .A) me.signature (me.spec 𝓤 H (𝓖 .A) (𝓜 .mem) (𝓡 .run)))
     (tables 𝓤 H 𝓜 𝓡 code.env .C) (tables 𝓤 H 𝓜 𝓡 code.env .Λ) #walk·next code.function (code.unfolded 𝓤 H 𝓜 𝓡)
     (next-meets 𝓤 H (𝓖 .A) (givenOf 𝓤 H 𝓜 𝓖) (𝓜 .mem) (𝓡 .run) (tablesOf 𝓤 H 𝓜 (tables 𝓤 H 𝓜 𝓡 code.env))
-    (cited 𝓤 H (StepAt 𝓤 H (𝓖 .A) (𝓜 .mem) (𝓡 .run)) 𝓜 𝓡 code.env #places·step-at step-def.routine code.calls-places·step-at (step-thm.met 𝓤 H 𝓜 𝓖 𝓡))
-    (cited 𝓤 H (PartIn 𝓤 H (𝓖 .A) (𝓜 .mem) (𝓡 .run)) 𝓜 𝓡 code.env #places·part-in part-def.routine code.calls-places·part-in (part-thm.met 𝓤 H 𝓜 𝓖 𝓡)))
+    (cited 𝓤 H (StepAt 𝓤 H (𝓖 .A) (𝓜 .mem) (𝓡 .run)) 𝓜 𝓡 code.env #steps·step-at step-def.routine code.calls-walk-steps·step-at (step-thm.met 𝓤 H 𝓜 𝓖 𝓡))
+    (cited 𝓤 H (PartIn 𝓤 H (𝓖 .A) (𝓜 .mem) (𝓡 .run)) 𝓜 𝓡 code.env #steps·part-in part-def.routine code.calls-walk-steps·part-in (part-thm.met 𝓤 H 𝓜 𝓖 𝓡)))

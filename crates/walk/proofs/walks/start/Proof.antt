@@ -36,9 +36,9 @@ use denote.Triple.Spec.{Meets, tripleOf}
 use denote.Triple.Table.{entered}
 use denote.Triple.Walked.{says, Stays, stay-none-slice, walkOf, goes-none-slice, Walks, ends-at, walked, walk-meets}
 use denote.Exit.{yes}
-use Rattle.walked.specs.declared.Walk.{Walk}
-use Rattle.walked.proofs.Walk as T
-use Rattle.walked.proofs.Walk.Laws as T′
+use Rattle.walk_rules.specs.declared.Walk.{Walk}
+use Rattle.walk_rules.proofs.Walk as T
+use Rattle.walk_rules.proofs.Walk.Laws as T′
 use Rattle.walk.proofs.walks.start.Key.{name as #walk·start}
 use Rattle.walk.proofs.walks.start as new
 use Rattle.walk.proofs.walks.start.Statement as stated

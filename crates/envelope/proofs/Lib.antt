@@ -1,3 +1,0 @@
-pub mod Lent
-pub mod StringCases
-pub mod CoverCases

@@ -1,0 +1,2 @@
+pub mod HeaderCases
+pub mod ContentCases

@@ -1,0 +1,2 @@
+pub mod StringCases
+pub mod CoverCases

@@ -1,2 +1,0 @@
-pub mod RunCases
-pub mod SpotCases

@@ -1,3 +1,0 @@
-pub mod HeaderCases
-pub mod ShortCases
-pub mod ContentCases
