@@ -1,6 +1,6 @@
 -- Settled contracts of requests, slips and the desk.
 -- One theorem for each public function, CRATE-FUNCTION-settled, crate by crate:
--- fields, errors, request, slip, slip_write, slip_read, hex, intake, deskcase, deskline.
+-- fields, read_errors, request, slip, slip_write, slip_read, hex, desk_intake, desk_case, desk_line.
 -- Of a function that writes, CRATE-FUNCTION-buffer says the same of the buffer. Of a returned part, its octets are said.
 -- What it is to be settled is in Settled. Assumes nothing.
 use denote.Ref.{now}

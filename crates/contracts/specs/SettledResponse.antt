@@ -1,6 +1,6 @@
 -- Settled contracts of the response and its parts.
 -- One theorem for each public function, CRATE-FUNCTION-settled, crate by crate:
--- cert, oids, extension, extensions, critical, ending, entry, look, envelope, signer, pieces, response, show.
+-- read_sequence to read_response, in the order of crates.txt, and show.
 -- Of a function that writes, CRATE-FUNCTION-buffer says the same of the buffer. Of a returned part, its octets are said.
 -- What it is to be settled is in Settled. Assumes nothing.
 use denote.Ref.{now}
@@ -33,6 +33,7 @@ use Rattle.read_response.proofs.refusal_of.Reads as read-response-refusal-of
 use Rattle.read_response.proofs.refuse.Reads as read-response-refuse
 use Rattle.show.proofs.entry_at.Reads as show-entry-at
 use Rattle.show.proofs.parts_of.Reads as show-parts-of
+use Rattle.show.proofs.octets_at.Reads as show-octets-at
 use Rattle.show.proofs.signed_part.Reads as show-signed-part
 use Rattle.show.proofs.signature.Reads as show-signature
 
@@ -135,6 +136,9 @@ show-entry-at-settled = settled _ _ _ (λ k a. tt) (λ k a z e p. p)
 
 pub show-parts-of-settled : Settled show-parts-of.Asked show-parts-of.Learnt
 show-parts-of-settled = settled _ _ _ (λ k a. tt) (λ k a z e p. p)
+
+pub show-octets-at-settled : Settles show-octets-at.Asked show-octets-at.Learnt (λ k z e. now z)
+show-octets-at-settled = settles _ _ (λ k z e. now z) _ (λ k a. tt) (λ k a z e p. p)
 
 pub show-signed-part-settled : Settles show-signed-part.Asked show-signed-part.Learnt (λ k z e. now z)
 show-signed-part-settled = settles _ _ (λ k z e. now z) _ (λ k a. tt) (λ k a z e p. p)

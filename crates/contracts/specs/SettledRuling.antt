@@ -1,6 +1,6 @@
 -- Settled contracts of the check.
 -- One theorem for each public function, CRATE-FUNCTION-settled, crate by crate:
--- answer, matching, search, ranges, understood, opened, ruling.
+-- answer, rule_matching, rule_search, rule_tests, rule_response, rule_check.
 -- Of a function that writes, CRATE-FUNCTION-buffer says the same of the buffer. Of a returned part, its octets are said.
 -- What it is to be settled is in Settled. Assumes nothing.
 use Rattle.contracts.specs.Settled.{Settled, settled}

@@ -1,6 +1,6 @@
 -- Settled contracts of free elements, and the elements that the layout is made of.
 -- One theorem for each public function, CRATE-FUNCTION-settled, crate by crate:
--- tree, spots, numbers, words.
+-- tree, read_content, read_numbers, read_codes.
 -- Of a function that writes, CRATE-FUNCTION-buffer says the same of the buffer. Of a returned part, its octets are said.
 -- What it is to be settled is in Settled. Assumes nothing.
 use Rattle.contracts.specs.Settled.{Settled, settled}

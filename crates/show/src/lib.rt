@@ -7,6 +7,7 @@ mod entries; // the entries one by one
 mod parts; // where the parts are, the signed part and the signature
 
 pub use entries::entry_at;
+pub use parts::octets_at;
 pub use parts::parts_of;
 pub use parts::signature;
 pub use parts::signed_part;

@@ -2,9 +2,7 @@
 use read_response::Judged;
 use read_response::Parts;
 use read_response::Span;
-ghost use Prim.Native.Nat.{_+_, _≤_};
 ghost use mathlib.Core.Path.{_≡_};
-ghost use lib.ListN.{length};
 ghost use Rattle.show.specs.Parts.{noParts, shownParts};
 ghost use Rattle.show.specs.Shown.{octetsIn, signedOf, signatureOf};
 
@@ -35,14 +33,20 @@ pub fn parts_of(judged: Judged) -> Parts
     }
 }
 
-// The octets at a place: the caller's own.
-fn octets_at<'a>(s: &'a [u8], at: Span) -> &'a [u8]
-    requires { ⌜ at .start + at .len ≤ length (now s) ⌝ }
+// The octets at a place, as far as s has them: the caller's own.
+pub fn octets_at<'a>(s: &'a [u8], at: Span) -> &'a [u8]
     ensures { λ r. ⌜ now r ≡ octetsIn (now (s .entry)) at ⌝ }
 {
     let start = at.start;
-    let end = start + at.len;
-    &s[start..end]
+    let len = at.len;
+    if s.len() < start {
+        return &s[..0];
+    }
+    let rest = &s[start..];
+    if rest.len() < len {
+        return rest;
+    }
+    &rest[..len]
 }
 
 // The signed part, header included: the caller's own octets; nothing where there is a refusal.

@@ -1,4 +1,5 @@
 // A step of a walk, by the response and the place.
+use read_response::Span;
 use show::Entry;
 use walk_rules::Advance;
 ghost use mathlib.Core.Path.{_≡_};
@@ -26,14 +27,8 @@ pub fn part_in<'a>(s: &'a [u8], says: Entry) -> &'a [u8]
 {
     match says {
         Entry::At { start, len } => {
-            if s.len() < start {
-                return &s[..0];
-            }
-            let rest = &s[start..];
-            if rest.len() < len {
-                return rest;
-            }
-            &rest[..len]
+            let at = Span { start, len };
+            show::octets_at(s, at)
         }
         Entry::End => &s[..0],
         Entry::Refused { .. } => &s[..0],

@@ -1,7 +1,7 @@
 -- `walk_steps::places::part_in` meets its contract, by what is said.
 -- Assumes nothing.
 use borrow.Author.Needs.{needs}
-use Rattle.walk_steps.proofs.StepCases.{counted, part-beyond, part-short, part-entry, part-end, part-refused}
+use Rattle.walk_steps.proofs.StepCases.{part-entry, part-end, part-refused}
 use Rattle.walk_steps.proofs.places.part_in.Statement.{statement}
 use Rattle.walk_steps.proofs.places.part_in.Tie as tie
 
@@ -10,13 +10,7 @@ part-in-spec =
     tie.close
     (tie.spec
     (λ c. search needs)
-    (λ c. search needs)
-    (λ c. search part-beyond)
-    (λ c. search needs)
-    (λ c. search needs)
-    (λ c. search needs)
-    (λ c. search part-short)
-    (λ c. search counted)
+    (λ c κs. search needs)
     (λ c. search needs)
     (λ c. search needs)
     (λ c. search needs)
