@@ -13,7 +13,7 @@ use lib.ListN.{length, getD}
 use borrow.Author.Tests.{leb-true, leb-false, eq-eqb, ne-eqb}
 use Rattle.calendar.specs.Date.{monthLen}
 use Rattle.calendar.specs.Time.{pairOf, clockOf, pairAt, timeOf, isTime}
-use Rattle.calendar.specs.FormLaws.{Digits, pair-digits, pair-cases, Fit, clock-at, clock-sound}
+use Rattle.calendar.specs.FormLaws.{Digits, pair-digits, pair-cases, ClockFits, clock-at, clock-sound}
 use Rattle.calendar.specs.Plain.{plainSeconds}
 use Rattle.calendar.specs.PlainLaws.{plain-time}
 use Rattle.calendar.specs.declared.Time.{Time}
@@ -27,7 +27,7 @@ module _ (a b : ℕ) where
   pair-none h = ⊎-elim (λ (d : Digits a b). absurd (h d)) (λ (e : pairOf a b ≡ 100). sym e) (pair-cases a b)
 
 module _ (c y mo d h mi se : ℕ) where
-  pub none-fits : (Fit c y mo d h mi se → ⊥) → false ≡ isTime (clockOf c y mo d h mi se)
+  pub none-fits : (ClockFits c y mo d h mi se → ⊥) → false ≡ isTime (clockOf c y mo d h mi se)
   unfolding isTime
   none-fits f = go (clockOf c y mo d h mi se) refl
     where

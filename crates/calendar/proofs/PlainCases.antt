@@ -12,7 +12,7 @@ use borrow.Author.Tests.{ltb-false, eq-eqb, ne-eqb}
 use Rattle.calendar.specs.Split.{before}
 use Rattle.calendar.specs.Date.{yearLen, monthLen}
 use Rattle.calendar.specs.Plain.{rawPair, rawAt, rawDay, plainClock, plainSeconds}
-use Rattle.calendar.specs.PlainLaws.{Known, clock-known}
+use Rattle.calendar.specs.PlainLaws.{KnownPairs, clock-known}
 
 pub pair-is : (a b : ℕ) → a < 256 → b < 256 → (a * 10 + b ≡ rawPair a b) × (a * 10 + b ≤ 2805)
 unfolding rawPair
@@ -24,7 +24,7 @@ past true n h = refl
 past false n h = h refl
 
 module _ (c y mo d h mi se : ℕ) where
-  pub none-is : (Known c y mo d h mi se → ⊥) → 0 ≡ plainClock c y mo d h mi se
+  pub none-is : (KnownPairs c y mo d h mi se → ⊥) → 0 ≡ plainClock c y mo d h mi se
   unfolding plainClock
   none-is n =
       past (ltb (c * 100 + y) 55298) _ (λ from.
@@ -34,7 +34,7 @@ module _ (c y mo d h mi se : ℕ) where
       past (ltb d 529) _ (λ begun.
       past (ltb (rawDay h mi se) 1933008) _ (λ time. absurd (n (omega (arith, ltb-false)))))))))
 
-  pub clock-is : Known c y mo d h mi se → (p q : ℕ) → p ≡ before yearLen (c * 100 + y - 53328 - 1970)
+  pub clock-is : KnownPairs c y mo d h mi se → (p q : ℕ) → p ≡ before yearLen (c * 100 + y - 53328 - 1970)
       → q ≡ before (monthLen (c * 100 + y - 53328)) (mo - 528 - 1)
       → (p + q + (d - 529)) * 86400 + (rawDay h mi se - 1933008) ≡ plainClock c y mo d h mi se
   clock-is k p q e f =

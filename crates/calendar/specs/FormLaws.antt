@@ -1,5 +1,5 @@
 -- The 15 octets of a moment, read and written.
--- Digits, pair-digits, pair-cases: two digits; Fit, clock-at, clock-sound: seven pairs of them;
+-- Digits, pair-digits, pair-cases: two digits; ClockFits, clock-at, clock-sound: seven pairs of them;
 -- form-read: a real moment's octets read as its seconds; read-form: no other octets read as a number;
 -- form-small: octets are below 256. Other crates need only TimeLaws.
 -- Assumes nothing.
@@ -71,15 +71,15 @@ cond-at false t n e = (cc, cc)
 
 module _ (c y mo d h mi se : ℕ) where
   -- the pairs of digits of a real moment
-  abbrev pub Fit : Type 0
-  Fit = (c < 100) × (y < 100) × Real (written c y mo d h mi se)
+  abbrev pub ClockFits : Type 0
+  ClockFits = (c < 100) × (y < 100) × Real (written c y mo d h mi se)
 
   -- they read as its seconds, and only they read as a number
-  pub clock-at : Fit → clockOf c y mo d h mi se ≡ At (secondsOf (written c y mo d h mi se))
+  pub clock-at : ClockFits → clockOf c y mo d h mi se ≡ At (secondsOf (written c y mo d h mi se))
   unfolding clockOf
   clock-at (p, q, r) = simp (lt-ltb c 100 p, lt-ltb y 100 q, real-is (written c y mo d h mi se) r)
 
-  pub clock-sound : (n : ℕ) → clockOf c y mo d h mi se ≡ At n → Fit × (secondsOf (written c y mo d h mi se) ≡ n)
+  pub clock-sound : (n : ℕ) → clockOf c y mo d h mi se ≡ At n → ClockFits × (secondsOf (written c y mo d h mi se) ≡ n)
   unfolding clockOf
   clock-sound n e =
       let f = cond-at (ltb c 100 && ltb y 100 && isReal (written c y mo d h mi se)) (At (secondsOf (written c y mo d h mi se))) n e in
@@ -105,7 +105,7 @@ form-read m r =
 
 -- octets whose pairs are those of a real moment are its octets
 read-octets : (s : List ℕ) → length s ≡ 15 → getD s 14 0 ≡ 90
-    → Fit (pairAt s 0) (pairAt s 2) (pairAt s 4) (pairAt s 6) (pairAt s 8) (pairAt s 10) (pairAt s 12)
+    → ClockFits (pairAt s 0) (pairAt s 2) (pairAt s 4) (pairAt s 6) (pairAt s 8) (pairAt s 10) (pairAt s 12)
     → s ≡ momentForm (written (pairAt s 0) (pairAt s 2) (pairAt s 4) (pairAt s 6) (pairAt s 8) (pairAt s 10) (pairAt s 12))
 unfolding momentForm
 read-octets s len z (c, y, r) =

@@ -1,5 +1,5 @@
 -- The seconds of octets that are a time, without a test of their digits, are the time's own.
--- Known, clock-known: pairs that pass the tests; plain-time.
+-- KnownPairs, clock-known: pairs that pass the tests; plain-time.
 -- The definitions are in Plain and Time. Assumes nothing.
 use Prim.Native.Nat.{ℕ, _+_, _-_, _*_, _/_, _%_, _≤_, _<_}
 use native.Mathlib.Omega.{arith}
@@ -16,7 +16,7 @@ use Rattle.calendar.specs.declared.Time.the-variants.{At}
 
 module _ (c y mo d h mi se : ℕ) where
   -- the pairs pass each test of `plainClock`
-  pub record Known : Type 0 where
+  pub record KnownPairs : Type 0 where
     pub from : 55298 ≤ c * 100 + y
     pub to : c * 100 + y ≤ 63327
     pub first : 529 ≤ mo
@@ -24,7 +24,7 @@ module _ (c y mo d h mi se : ℕ) where
     pub begun : 529 ≤ d
     pub time : 1933008 ≤ rawDay h mi se
 
-  pub clock-known : Known → plainClock c y mo d h mi se ≡ daysOf (c * 100 + y - 53328) (mo - 528) (d - 528) * 86400 + (rawDay h mi se - 1933008)
+  pub clock-known : KnownPairs → plainClock c y mo d h mi se ≡ daysOf (c * 100 + y - 53328) (mo - 528) (d - 528) * 86400 + (rawDay h mi se - 1933008)
   unfolding plainClock
   clock-known k =
       simp (

@@ -1,7 +1,7 @@
 -- Laws of a loop over the elements of a list, up to its end: it is at a place up to which k elements are
 -- met, and the answer for the list is made of the answer for what is left. The bound is the most elements
 -- that are allowed, or there is none.
--- Answer, what code tells of a reading; fits, that they fit or the place that is wrong; Room, rest; Turns,
+-- Telling, what code tells of a reading; fits, that they fit or the place that is wrong; OneMore, rest; Turns,
 -- where the loop is. turn-start, turn-end, turn-over, turn-bad, turn-next: its turns. turn-place,
 -- turn-inside, turn-sum, turn-less: that a place is in the list, and that less is left.
 -- The readings are in Many and Any, the answers in Views.
@@ -29,7 +29,7 @@ use Rattle.codec.specs.declared.Fit.the-variants.{Fits, Breaks}
 
 -- what code tells of a reading of elements, of them all and past the octets and the number of those
 -- before: how many are met, or the place that is wrong
-pub record Answer {A R : Type 0} (of : Read (List A) → R) (past : ℕ → ℕ → R → R) (met wrong : ℕ → R) : Type 0 where
+pub record Telling {A R : Type 0} (of : Read (List A) → R) (past : ℕ → ℕ → R → R) (met wrong : ℕ → R) : Type 0 where
   pub start : (x : R) → x ≡ past 0 0 x
   pub ends : (at k : ℕ) → past at k (of (read [])) ≡ met k
   pub stops : (at k p : ℕ) → past at k (of (broke p)) ≡ wrong (at + p)
@@ -42,7 +42,7 @@ later-start Fits = refl
 later-start (Breaks p) = ap Breaks (omega arith)
 
 -- that they fit, or the place that is wrong
-pub fits : (A : Type 0) → Answer {A = A} fitOf (λ at k. later at) (λ k. Fits) Breaks
+pub fits : (A : Type 0) → Telling {A = A} fitOf (λ at k. later at) (λ k. Fits) Breaks
 unfolding fitOf later
 fits A = record {
   start = later-start;
@@ -52,11 +52,11 @@ fits A = record {
 }
 
 -- after k elements one more is allowed
-abbrev pub Room : Option ℕ → ℕ → Type 0
-Room (some hi) k = (k ≤ hi) × (k ≡ hi → ⊥)
-Room none k = Unit {0}
+abbrev pub OneMore : Option ℕ → ℕ → Type 0
+OneMore (some hi) k = (k ≤ hi) × (k ≡ hi → ⊥)
+OneMore none k = Unit {0}
 
-one-less : (hi k : ℕ) → Room (some hi) k → hi - k ≡ suc (hi - (k + 1))
+one-less : (hi k : ℕ) → OneMore (some hi) k → hi - k ≡ suc (hi - (k + 1))
 one-less hi k m = omega (arith, m .0, m .1)
 
 module _ {A : Type 0} (e : Element A) where
@@ -75,11 +75,11 @@ module _ {A : Type 0} (e : Element A) where
       go zero = refl
       go (suc j) = refl
 
-  rest-bad : (b : Option ℕ) (k : ℕ) → Room b k → (s : List ℕ) (p : ℕ) → 0 < length s → e .dec s ≡ bad p → rest b k s ≡ broke p
+  rest-bad : (b : Option ℕ) (k : ℕ) → OneMore b k → (s : List ℕ) (p : ℕ) → 0 < length s → e .dec s ≡ bad p → rest b k s ≡ broke p
   rest-bad none k m s p h q = all-bad e s p h q
   rest-bad (some hi) k m s p h q = rw (one-less hi k m) (many-bad (e .dec) 0 (hi - (k + 1)) s p h q)
 
-  rest-got : (b : Option ℕ) (k : ℕ) → Room b k → (s : List ℕ) (a : A) (n : ℕ) → 0 < length s → e .dec s ≡ got a n
+  rest-got : (b : Option ℕ) (k : ℕ) → OneMore b k → (s : List ℕ) (a : A) (n : ℕ) → 0 < length s → e .dec s ≡ got a n
       → rest b k s ≡ further n (λ l. a ∷ l) (rest b (k + 1) (drop n s))
   rest-got none k m s a n h q = all-got e s a n q
   rest-got (some hi) k m s a n h q = rw (one-less hi k m) (many-got (e .dec) 0 (hi - (k + 1)) s a n h q)
@@ -108,7 +108,7 @@ module _ {A : Type 0} (e : Element A) (s : List ℕ) (at : ℕ) (x : Step) (q : 
     turn-less = omega (arith, taken .0, taken .1)
 
 -- the turns of the loop, by what code tells
-module _ {A R : Type 0} {of : Read (List A) → R} {past : ℕ → ℕ → R → R} {met wrong : ℕ → R} (v : Answer of past met wrong) where
+module _ {A R : Type 0} {of : Read (List A) → R} {past : ℕ → ℕ → R → R} {met wrong : ℕ → R} (v : Telling of past met wrong) where
   -- it is at a place up to which k elements are met
   abbrev pub Turns : Option ℕ → Element A → List ℕ → ℕ → ℕ → Type 0
   Turns b e s at k = of (rest e b 0 s) ≡ past at k (of (rest e b k (drop at s)))
@@ -125,7 +125,7 @@ module _ {A R : Type 0} {of : Read (List A) → R} {past : ℕ → ℕ → R →
       stopped : (p : ℕ) → rest e b k (drop at s) ≡ broke p → wrong (at + p) ≡ of (rest e b 0 s)
       stopped p j = sym (i ∙ rw j (v .stops at k p))
 
-      module _ (x : Step) (q : x ≡ stepOf (e .dec (take (length s - at) (drop at s)))) (m : Room b k) where
+      module _ (x : Step) (q : x ≡ stepOf (e .dec (take (length s - at) (drop at s)))) (m : OneMore b k) where
         pub turn-bad : at < length s → (p : ℕ) → x ≡ Bad p → wrong (at + p) ≡ of (rest e b 0 s)
         turn-bad lt p f =
             let g = step-bad e (drop at s) p (here e s at x q ∙ f) .0 in

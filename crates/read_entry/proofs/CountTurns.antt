@@ -8,7 +8,7 @@ use mathlib.Core.Path.{_≡_, refl, ap}
 use mathlib.Core.List.{List, _∷_}
 use Rattle.codec.specs.Codec.{Read, read, broke}
 use Rattle.codec.specs.Outcome.{further}
-use Rattle.codec.specs.TurnLaws.{Answer}
+use Rattle.codec.specs.TurnLaws.{Telling}
 use Rattle.read_entry.specs.Counts.{countOf}
 use Rattle.read_entry.specs.declared.Count.{Count}
 use Rattle.read_entry.specs.declared.Count.the-variants.{Is, Breaks}
@@ -28,7 +28,7 @@ unfolding onwards countOf
 onwards-next at k n a (read l) = ap Is (omega arith)
 onwards-next at k n a (broke p) = ap Breaks (omega arith)
 
-pub counts : (A : Type 0) → Answer {A = A} countOf onwards Is Breaks
+pub counts : (A : Type 0) → Telling {A = A} countOf onwards Is Breaks
 unfolding onwards countOf
 counts A = record {
   start = onwards-start;

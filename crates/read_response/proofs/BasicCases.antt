@@ -29,7 +29,7 @@ use Rattle.read_basic.specs.declared.Inside.the-variants as inside
 use Rattle.read_basic.specs.declared.Tail.{Tail}
 use Rattle.read_basic.specs.declared.Tail.the-variants as tail
 use Rattle.read_response.specs.Content.{contentOf}
-use Rattle.read_response.specs.Placed.{frontAt, after, tailed}
+use Rattle.read_response.specs.Placed.{frontAt, afterSigned, tailed}
 use Rattle.read_response.specs.declared.basics.Front.{Front}
 use Rattle.read_response.specs.declared.basics.Body.{Body}
 use Rattle.read_response.specs.declared.basics.Body.the-variants as body
@@ -46,10 +46,10 @@ module _ (s : List ℕ) (x : Front) (pre : (x .signed .len ≤ length s) × (x .
       let v = rw tail-is at (tail-ends (drop (x .signed .len) s) (octets-drop (x .signed .len) s (known-octets s known))) in
       omega (arith, pre .0, length-drop (x .signed .len) s)
 
-  pub tail-place : (p : ℕ) → z ≡ tail.Broken p → Known s → Fits w64 (after x + p)
+  pub tail-place : (p : ℕ) → z ≡ tail.Broken p → Known s → Fits w64 (afterSigned x + p)
   tail-place p w known = let v = rw w at (tail-in known) in record { fits = omega (arith, pre .1) }
 
-  pub tail-fits : (a g h : ℕ) → z ≡ tail.Holds a g h → Known s → after x + g + h ≤ x .signed .start + length s
+  pub tail-fits : (a g h : ℕ) → z ≡ tail.Holds a g h → Known s → afterSigned x + g + h ≤ x .signed .start + length s
   tail-fits a g h w known = let v = rw w at (tail-in known) in omega arith
 
   -- by what was answered for it

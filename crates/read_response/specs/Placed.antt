@@ -22,8 +22,8 @@ frontAt at b e r f m k = record {
 }
 
 -- where the signed part ends
-abbrev pub after : Front → ℕ
-after x = x .signed .start + x .signed .len
+abbrev pub afterSigned : Front → ℕ
+afterSigned x = x .signed .start + x .signed .len
 
 -- the algorithm takes a, and the signature is at g after the signed part and takes h; the response ends at n
 abbrev pub partsAt : (x : Front) (a g h n : ℕ) → Parts
@@ -33,12 +33,12 @@ partsAt x a g h n = record {
   entries = x .entries;
   count = x .count;
   extensions = x .extensions;
-  algorithm = span (after x) a;
-  signature = span (after x + g) h;
-  certificates = span (after x + g + h) (n - (after x + g + h));
+  algorithm = span (afterSigned x) a;
+  signature = span (afterSigned x + g) h;
+  certificates = span (afterSigned x + g + h) (n - (afterSigned x + g + h));
 }
 
 -- by what follows the signed part, in a content of n octets
 unfoldable pub tailed : Front → ℕ → Tail → Body
 tailed x n (tail.Holds a g h) = body.Holds (partsAt x a g h (x .signed .start + n))
-tailed x n (tail.Broken p) = body.Broken (after x + p)
+tailed x n (tail.Broken p) = body.Broken (afterSigned x + p)
