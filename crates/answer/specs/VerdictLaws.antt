@@ -1,6 +1,5 @@
--- Laws of verdicts: the kind tells the cases apart, and a refusal is none of the other three.
--- refused-kind, refused-number,
--- refused-card; number-refused.
+-- Laws of verdicts: the kind, the number and the card of a refusal, and that an answer with a number is one.
+-- refused-kind, refused-number, refused-card; number-refused.
 -- The definitions are in Verdict. Assumes nothing.
 use Prim.Native.Nat.{ℕ}
 use mathlib.Core.Path.{_≡_, refl}
@@ -9,12 +8,10 @@ use Rattle.answer.specs.declared.Verdict.the-variants.{Good, Revoked, Un
 use Rattle.answer.specs.Card.{emptyCard}
 use Rattle.answer.specs.Verdict.{kindOf, numberOf, refused}
 
--- ---- each kind is that of one case
-
 -- ---- a refusal
 
 module _ (number status : ℕ) where
-  -- it has kind 4, its number and its status, and the empty card
+  -- it has kind 4, its number, and the empty card
   pub refused-kind : kindOf (refused number status .verdict) ≡ 4
   unfolding refused
   refused-kind = refl

@@ -1,7 +1,7 @@
 -- Keys that are octets, and where a key stands: a content that is none of those before it, and the
 -- element, sequence and names around it.
--- newTo, newContent; keyed-content, keyed-primitive, keyed-tagged, keyed-field,
--- keyed-mappedOk, keyed-mapped.
+-- newTo, newContent; keyed-content, keyed-primitive, keyed-tagged, keyed-field, keyed-mappedOk,
+-- keyed-mapped.
 -- Assumes nothing.
 use Prim.Native.Nat.{ℕ, _<_}
 use native.Mathlib.Omega.{arith}

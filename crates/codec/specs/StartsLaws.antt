@@ -1,8 +1,6 @@
 -- The octet that each combinator's forms begin with, or never begin with: what option and choice ask
 -- of their parts.
--- tagged-starts, primitive-starts; starts-other, choice-other; end-apart,
--- field-apart, only-apart, option-apart;
--- and so for mappedTo and mappedOk.
+-- tagged-starts, primitive-starts; starts-other, choice-other; end-apart, field-apart, only-apart, option-apart.
 -- Assumes nothing.
 use Prim.Native.Nat.{ℕ, _<_}
 use mathlib.Core.Path.{_≡_, refl, ap, _∙_}

@@ -1,8 +1,7 @@
 -- Laws of readings seen as positions: what an answer tells of the reading, and how the answer for a
--- sequence, an option or an element is made of the answers for its parts.
+-- sequence or an element is made of the answers for its parts.
 -- step-taken, step-bad, fit-fits, fit-breaks; fit-further, fit-renamed, step-called, later-later;
--- fit-mapped, fit-field, fit-only; step-refused, step-fits,
--- step-breaks.
+-- fit-mapped, fit-field, fit-only; step-refused, step-fits.
 -- Assumes nothing.
 use Prim.Native.Nat.{ℕ, _+_, _≤_, _<_}
 use native.Mathlib.Omega.{arith}

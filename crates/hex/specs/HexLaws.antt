@@ -1,4 +1,4 @@
--- Laws of hex: two digits for each octet, piece after piece, and no two lists of octets have the same digits.
+-- Laws of hex: two digits for each octet, piece after piece.
 -- hex-length, hex-append, line-length; digit-low, digit-high.
 -- The definitions are in Hex. Assumes nothing.
 use Prim.Native.Nat.{ℕ, _+_, _*_, _/_, _%_, _≤_, _<_}

@@ -1,5 +1,5 @@
 -- Elements whose value is their last octets, so that the value's place follows from its length.
--- LastLaws; last-primitive, last-string, last-hash, last-oid, last-bits. What a spot then tells
+-- Last; last-primitive, last-string, last-hash, last-oid, last-bits. What a spot then tells
 -- is in SpotLaws.
 -- Assumes nothing.
 use Prim.Native.Nat.{ℕ, _+_, _-_, _≤_, _<_}

@@ -1,7 +1,6 @@
--- Laws of matching for a card: what a match says of a CertID; that a CertID is for one card only; and that it
--- is for a card exactly where its octets are the card's.
--- match-unique; hash-twenty, card-read,
--- cert-octets.
+-- Laws of matching for a card: that a CertID is for one card only, and that it is for a card exactly where its octets
+-- are the card's.
+-- match-unique; hash-twenty, card-read, cert-octets.
 -- The definitions are in Match and CertForm; the same over any algorithms is in Matched, Known
 -- and CertFormLaws.
 -- Assumes nothing.

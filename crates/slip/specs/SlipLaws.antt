@@ -119,5 +119,3 @@ module _ (n : ℕ) (s : List ℕ) (p : Octets s) where
     λ e. ap slipOf (sym e) ∙ written-read (λ (z : readOf n s ≡ refused 17 0). impossible (sym refused-not ∙ ap slipOk (sym z ∙ e) ∙ ok)) .1,
     λ e. ap (readOf n) (sym e) ∙ read-written a ok n h,
   )
-
--- ---- in a buffer
