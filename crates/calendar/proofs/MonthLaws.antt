@@ -1,42 +1,44 @@
--- The code's two tables are the month lengths and their sums.
--- month-leap, month-common, month-other: the days of a month, as the code's tests leave them;
--- day-early: every month has 28 days;
--- sums, sum-short, months-first, months-leap, months-common: the days before a month.
+-- The code's two formulas are the month lengths and their sums.
+-- lengthBy, daysBy: the formulas; all-right: a test of both, computed of twelve months and two kinds of year; month-right: as a rule;
+-- month-leap, month-common, month-other: the days of a month, as the code's tests leave them; day-early: every month has 28 days;
+-- months-first, months-leap, months-common: the days before a month.
 -- Assumes nothing.
-use Prim.Native.Nat.{ℕ, zero, suc, _+_, _-_, _≤_, _<_}
+use Prim.Native.Nat.{ℕ, suc, _+_, _-_, _*_, _/_, _%_, _≤_, _<_}
 use native.Mathlib.Omega.{arith}
 use mathlib.Core.Path.{_≡_, refl, sym, _∙_}
-use mathlib.Core.List.{List, [], _∷_}
-use mathlib.Core.Bool.{Bool, true, false, cond, _&&_, and-false}
+use mathlib.Core.Bool.{Bool, true, false, cond, _&&_, _||_}
 use lib.Dec.{leb, eqb}
 use lib.ListN.{getD}
-use borrow.Author.Tests.{leb-true, eqb-true, le-leb, lt-leb}
+use borrow.Author.Tests.{leb-true, eqb-true, le-leb, lt-leb, ne-eqb}
 use Rattle.calendar.specs.Split.{before}
 use Rattle.calendar.specs.Date.{leapOf, lengths, monthLen}
-use Rattle.calendar.specs.DateLaws.{holdsBelow, each-at, month-within}
+use Rattle.calendar.specs.DateLaws.{and-l, and-r, holdsBelow, each-at, month-within}
 
--- a leap year changes no month but February
-lengths-other : (leap : Bool) (k : ℕ) → (k ≡ 1 → ⊥) → getD (lengths false) k 0 ≡ getD (lengths leap) k 0
-lengths-other false k h = refl
-lengths-other true zero h = refl
-lengths-other true (suc zero) h = absurd (h refl)
-lengths-other true (suc (suc k)) h = refl
+-- the days of month m, where it is not February
+unfoldable pub lengthBy : ℕ → ℕ
+lengthBy m = 30 + (m + m / 8) % 2
 
--- the days before each month, in a common year
-abbrev sums : List ℕ
-sums = 0 ∷ 31 ∷ 59 ∷ 90 ∷ 120 ∷ 151 ∷ 181 ∷ 212 ∷ 243 ∷ 273 ∷ 304 ∷ 334 ∷ []
+-- the days before month m, as if February had 30
+unfoldable pub daysBy : ℕ → ℕ
+daysBy m = (489 * m - 480) / 16
 
--- an entry, with the leap day from March on, is the sum of the lengths before it
-isSum : Bool → ℕ → Bool
-isSum leap k = eqb (getD sums k 0 + cond (leap && leb 2 k) 1 0) (before (λ (i : ℕ). getD (lengths leap) i 0) k)
+-- how many of those February has not, for month 1 + k
+lacking : Bool → ℕ → ℕ
+lacking leap k = cond (leb 2 k) (cond leap 1 2) 0
 
-sums-right : (leap : Bool) → holdsBelow (isSum leap) 12 ≡ true
-unfolding isSum before
-sums-right true = refl
-sums-right false = refl
+-- each formula is right of month 1 + k, and at most 335 days are before it
+lengthRight : Bool → ℕ → Bool
+lengthRight leap k = eqb k 1 || eqb (lengthBy (suc k)) (getD (lengths leap) k 0)
 
-pub sum-short : (m : ℕ) → (1 ≤ m) × (m ≤ 12) → getD sums (m - 1) 0 ≤ 334
-sum-short m pre = leb-true _ _ (each-at (λ (i : ℕ). leb (getD sums i 0) 334) 12 refl (m - 1) (omega arith))
+daysRight : Bool → ℕ → Bool
+daysRight leap k =
+    let days = before (λ (i : ℕ). getD (lengths leap) i 0) k in
+    eqb (daysBy (suc k)) (days + lacking leap k) && leb days 335
+
+all-right : (leap : Bool) → holdsBelow (λ (k : ℕ). lengthRight leap k && daysRight leap k) 12 ≡ true
+unfolding lengthRight daysRight lacking lengthBy daysBy before
+all-right true = refl
+all-right false = refl
 
 module _ (y m : ℕ) where
   pub month-leap : (t : Bool) → t ≡ leapOf y → t ≡ true → m ≡ 2 → 29 ≡ monthLen y (m - 1)
@@ -47,25 +49,38 @@ module _ (y m : ℕ) where
   unfolding monthLen
   month-common t e f h = rw (h, sym e ∙ f)
 
-  module _ (pre : (1 ≤ m) × (m ≤ 12)) (d : ℕ) where
-    pub month-other : d ≡ getD (lengths false) (m - 1) 0 → (m ≡ 2 → ⊥) → d ≡ monthLen y (m - 1)
-    unfolding monthLen
-    month-other s h = s ∙ lengths-other (leapOf y) (m - 1) (λ q. h (omega arith))
+  module _ (pre : (1 ≤ m) × (m ≤ 12)) where
+    pub day-early : (d : ℕ) → d ≤ 28 → true ≡ leb d (monthLen y (m - 1))
+    day-early d h = sym (le-leb d (monthLen y (m - 1)) (omega (arith, month-within y (m - 1) (omega arith))))
 
-    pub day-early : d ≤ 28 → true ≡ leb d (monthLen y (m - 1))
-    day-early h = sym (le-leb d (monthLen y (m - 1)) (omega (arith, month-within y (m - 1) (omega arith))))
+    month-right : (lengthRight (leapOf y) (m - 1) ≡ true) × (daysRight (leapOf y) (m - 1) ≡ true)
+    month-right =
+        let t = each-at (λ (k : ℕ). lengthRight (leapOf y) k && daysRight (leapOf y) k) 12 (all-right (leapOf y)) (m - 1) (omega arith) in
+        (search and-l, search and-r)
 
-    right : getD sums (m - 1) 0 + cond (leapOf y && leb 2 (m - 1)) 1 0 ≡ before (monthLen y) (m - 1)
-    unfolding isSum monthLen
-    right = eqb-true _ _ (each-at (isSum (leapOf y)) 12 (sums-right (leapOf y)) (m - 1) (omega arith))
+    this : suc (m - 1) ≡ m
+    this = omega arith
 
-    pub months-first : d ≡ getD sums (m - 1) 0 → m < 3 → (d ≡ before (monthLen y) (m - 1)) × (d ≤ 335)
-    months-first s h = omega (arith, sum-short m pre, rw (lt-leb 2 (m - 1) (omega arith), and-false (leapOf y)) at right)
+    pub month-other : (m ≡ 2 → ⊥) → lengthBy m ≡ monthLen y (m - 1)
+    unfolding lengthRight monthLen
+    month-other h = eqb-true _ _ (rw (ne-eqb (m - 1) 1 (λ q. h (omega arith)), this) at (month-right .0))
 
-    pub months-leap : d ≡ getD sums (m - 1) 0 → 3 ≤ m → (t : Bool) → t ≡ leapOf y → t ≡ true
-        → (d + 1 ≡ before (monthLen y) (m - 1)) × (d + 1 ≤ 335)
-    months-leap s h t e f = omega (arith, sum-short m pre, rw (sym e ∙ f, le-leb 2 (m - 1) (omega arith)) at right)
+    days-are : (daysBy m ≡ before (monthLen y) (m - 1) + lacking (leapOf y) (m - 1)) × (before (monthLen y) (m - 1) ≤ 335)
+    unfolding daysRight monthLen
+    days-are =
+        let t = rw this at (month-right .1) in
+        (eqb-true _ _ (search and-l), leb-true _ _ (search and-r))
 
-    pub months-common : d ≡ getD sums (m - 1) 0 → (t : Bool) → t ≡ leapOf y → t ≡ false
-        → (d ≡ before (monthLen y) (m - 1)) × (d ≤ 335)
-    months-common s t e f = omega (arith, sum-short m pre, rw (sym e ∙ f) at right)
+    pub months-first : m < 3 → (daysBy m ≡ before (monthLen y) (m - 1)) × (daysBy m ≤ 335)
+    unfolding lacking
+    months-first h = omega (arith, rw (lt-leb 2 (m - 1) (omega arith)) at days-are)
+
+    pub months-leap : 3 ≤ m → (t : Bool) → t ≡ leapOf y → t ≡ true
+        → (daysBy m - 1 ≡ before (monthLen y) (m - 1)) × (daysBy m - 1 ≤ 335)
+    unfolding lacking
+    months-leap h t e f = omega (arith, rw (sym e ∙ f, le-leb 2 (m - 1) (omega arith)) at days-are)
+
+    pub months-common : 3 ≤ m → (t : Bool) → t ≡ leapOf y → t ≡ false
+        → (daysBy m - 2 ≡ before (monthLen y) (m - 1)) × (daysBy m - 2 ≤ 335)
+    unfolding lacking
+    months-common h t e f = omega (arith, rw (sym e ∙ f, le-leb 2 (m - 1) (omega arith)) at days-are)

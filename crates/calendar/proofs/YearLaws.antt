@@ -13,7 +13,7 @@ use Rattle.calendar.specs.DateLaws.{and-l, and-r, holdsBelow, each-at}
 
 -- the days of the k years from 1970 on, where p is the year before
 unfoldable pub formula : ℕ → ℕ → ℕ
-formula k p = 365 * k + (p / 4 - 492) - (p / 100 - 19) + (p / 400 - 4)
+formula k p = 365 * k + (p / 4 - 492) - (p / 100 - 19) + (p / 100 / 4 - 4)
 
 -- one year more is its days more, and at most 366
 grows : ℕ → Bool

@@ -5,19 +5,6 @@ ghost use lib.Dec.{leb};
 ghost use Rattle.calendar.specs.Split.{before};
 ghost use Rattle.calendar.specs.Date.{leapOf, yearLen, monthLen};
 
-// The month lengths; February's is that of a common year.
-const LENGTHS: [u16; 12] = [31, 28, 31, 30, 31, 30, 31, 31, 30, 31, 30, 31];
-
-// The days before each month in a common year.
-const BEFORE: [u16; 12] = [0, 31, 59, 90, 120, 151, 181, 212, 243, 273, 304, 334];
-
-// A number of a table, as a number of days.
-fn wide(x: u16) -> u64
-    ensures { λ r. ⌜ r ≡ x ⌝ }
-{
-    x as u64
-}
-
 // Whether a year is a leap year.
 fn is_leap(y: u64) -> bool
     ensures { λ r. ⌜ r ≡ leapOf y ⌝ }
@@ -31,7 +18,8 @@ fn is_leap(y: u64) -> bool
     y % 400 == 0
 }
 
-// The days of month m, from 1 on, of year y.
+// The days of month m, from 1 on, of year y. But for February they are 31 and 30 by turns, with a
+// second 31 in August.
 fn month_len(y: u64, m: u64) -> u64
     requires { ⌜ (1 ≤ m) × (m ≤ 12) ⌝ }
     ensures { λ r. ⌜ r ≡ monthLen y (m - 1) ⌝ }
@@ -42,8 +30,7 @@ fn month_len(y: u64, m: u64) -> u64
         }
         return 28;
     }
-    let i = (m - 1) as usize;
-    wide(LENGTHS[i])
+    30 + (m + m / 8) % 2
 }
 
 // Whether month m of year y has a day d. The first 28 days are in every month.
@@ -57,20 +44,20 @@ pub(crate) fn day_fits(y: u64, m: u64, d: u64) -> bool
     d <= month_len(y, m)
 }
 
-// The days of year y before month m.
+// The days of year y before month m. At 30 and 9 sixteenths to a month the division gives them as if
+// February had 30 days; from March on, the one or two that it has not are taken off.
 pub(crate) fn before_month(y: u64, m: u64) -> u64
     requires { ⌜ (1 ≤ m) × (m ≤ 12) ⌝ }
     ensures { λ r. ⌜ (r ≡ before (monthLen y) (m - 1)) × (r ≤ 335) ⌝ }
 {
-    let i = (m - 1) as usize;
-    let d = wide(BEFORE[i]);
+    let d = (489 * m - 480) / 16;
     if m < 3 {
         return d;
     }
     if is_leap(y) {
-        return d + 1;
+        return d - 1;
     }
-    d
+    d - 2
 }
 
 // The days from 1970 on before year y: 365 for each year, and a leap day for each fourth year, but
@@ -80,5 +67,6 @@ pub(crate) fn before_year(y: u64) -> u64
     ensures { λ r. ⌜ (r ≡ before yearLen (y - 1970)) × (r ≤ 366 * (y - 1970)) ⌝ }
 {
     let p = y - 1;
-    365 * (y - 1970) + (p / 4 - 492) - (p / 100 - 19) + (p / 400 - 4)
+    let hundreds = p / 100;
+    365 * (y - 1970) + (p / 4 - 492) - (hundreds - 19) + (hundreds / 4 - 4)
 }

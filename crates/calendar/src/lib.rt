@@ -2,7 +2,7 @@
 //
 // No public function requires anything. To `read_time` octets that are no such time get an answer that
 // says so; `time_fits` says only whether they are one; `seconds_of` is for octets of which that is known.
-// Only `date` has the month list.
+// Only `date` knows the months, and it has no list of them: their days come by division.
 mod date; // the days of months and years
 mod fitting; // whether the octets are a time
 mod plain; // the seconds of octets that are known to be a time

@@ -1,7 +1,7 @@
 -- `calendar::date::month_len` meets its contract: each return is a case law of MonthLaws.
 -- Assumes nothing.
 use native.Mathlib.Omega.{arith}
-use Rattle.calendar.proofs.MonthLaws.{month-leap, month-common, month-other}
+use Rattle.calendar.proofs.MonthLaws.{lengthBy, month-leap, month-common, month-other}
 use borrow.Author.Needs.{needs}
 use Rattle.calendar.proofs.date.month_len.Statement.{statement}
 use Rattle.calendar.proofs.date.month_len.Tie as tie
@@ -13,17 +13,8 @@ returns-2 : tie.Need-returns-2
 returns-2 c = month-common _ _ _ (c .before .is-leap .ensures) (c .if2 .left) (omega arith)
 
 returns-3 : tie.Need-returns-3
-returns-3 c = month-other _ _ (c .before .before .pre) _ (c .wide .ensures) (omega arith)
+unfolding lengthBy
+returns-3 c = month-other _ _ (c .before .pre) (omega arith)
 
 pub month-len-spec : {M : Type 1} → statement M
-month-len-spec =
-    tie.close
-    (tie.spec
-    (λ c κs. search needs)
-    returns
-    returns-2
-    (λ c. search needs)
-    (λ c. search needs)
-    (λ c. search needs)
-    (λ c κs. search needs)
-    returns-3)
+month-len-spec = tie.close (tie.spec (λ c κs. search needs) returns returns-2 (λ c. search needs) (λ c. search needs) returns-3)
