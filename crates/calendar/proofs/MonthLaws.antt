@@ -1,11 +1,11 @@
 -- The code's two formulas are the month lengths and their sums.
 -- lengthBy, daysBy: the formulas; all-right: a test of both, computed of twelve months and two kinds of year; month-right: as a rule;
--- month-leap, month-common, month-other: the days of a month, as the code's tests leave them; day-early: every month has 28 days;
--- months-first, months-leap, months-common: the days before a month.
+-- month-second, month-other: the days of a month, as the code's tests leave them; day-early: every month has 28 days;
+-- months-first, months-later: the days before a month.
 -- Assumes nothing.
 use Prim.Native.Nat.{ℕ, suc, _+_, _-_, _*_, _/_, _%_, _≤_, _<_}
 use native.Mathlib.Omega.{arith}
-use mathlib.Core.Path.{_≡_, refl, sym, _∙_}
+use mathlib.Core.Path.{_≡_, refl, sym}
 use mathlib.Core.Bool.{Bool, true, false, cond, _&&_, _||_}
 use lib.Dec.{leb, eqb}
 use lib.ListN.{getD}
@@ -41,13 +41,9 @@ all-right true = refl
 all-right false = refl
 
 module _ (y m : ℕ) where
-  pub month-leap : (t : Bool) → t ≡ leapOf y → t ≡ true → m ≡ 2 → 29 ≡ monthLen y (m - 1)
+  pub month-second : (leap : Bool) → leap ≡ leapOf y → m ≡ 2 → cond leap 29 28 ≡ monthLen y (m - 1)
   unfolding monthLen
-  month-leap t e f h = rw (h, sym e ∙ f)
-
-  pub month-common : (t : Bool) → t ≡ leapOf y → t ≡ false → m ≡ 2 → 28 ≡ monthLen y (m - 1)
-  unfolding monthLen
-  month-common t e f h = rw (h, sym e ∙ f)
+  month-second leap e h = rw (h, sym e)
 
   module _ (pre : (1 ≤ m) × (m ≤ 12)) where
     pub day-early : (d : ℕ) → d ≤ 28 → true ≡ leb d (monthLen y (m - 1))
@@ -75,12 +71,7 @@ module _ (y m : ℕ) where
     unfolding lacking
     months-first h = omega (arith, rw (lt-leb 2 (m - 1) (omega arith)) at days-are)
 
-    pub months-leap : 3 ≤ m → (t : Bool) → t ≡ leapOf y → t ≡ true
-        → (daysBy m - 1 ≡ before (monthLen y) (m - 1)) × (daysBy m - 1 ≤ 335)
+    pub months-later : (leap : Bool) → leap ≡ leapOf y → 3 ≤ m
+        → (daysBy m - cond leap 1 2 ≡ before (monthLen y) (m - 1)) × (daysBy m - cond leap 1 2 ≤ 335)
     unfolding lacking
-    months-leap h t e f = omega (arith, rw (sym e ∙ f, le-leb 2 (m - 1) (omega arith)) at days-are)
-
-    pub months-common : 3 ≤ m → (t : Bool) → t ≡ leapOf y → t ≡ false
-        → (daysBy m - 2 ≡ before (monthLen y) (m - 1)) × (daysBy m - 2 ≤ 335)
-    unfolding lacking
-    months-common h t e f = omega (arith, rw (sym e ∙ f, le-leb 2 (m - 1) (omega arith)) at days-are)
+    months-later leap e h = omega (arith, rw (sym e, le-leb 2 (m - 1) (omega arith)) at days-are)

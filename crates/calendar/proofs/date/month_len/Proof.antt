@@ -1,16 +1,18 @@
 -- `calendar::date::month_len` meets its contract: each return is a case law of MonthLaws.
 -- Assumes nothing.
 use native.Mathlib.Omega.{arith}
-use Rattle.calendar.proofs.MonthLaws.{lengthBy, month-leap, month-common, month-other}
+use mathlib.Core.Path.{sym, _∙_}
+use mathlib.Core.Bool.{true, false}
+use Rattle.calendar.proofs.MonthLaws.{lengthBy, month-second, month-other}
 use borrow.Author.Needs.{needs}
 use Rattle.calendar.proofs.date.month_len.Statement.{statement}
 use Rattle.calendar.proofs.date.month_len.Tie as tie
 
 returns : tie.Need-returns
-returns c = month-leap _ _ _ (c .before .is-leap .ensures) (c .if2 .taken) (omega arith)
+returns c = month-second _ _ true (sym (c .if2 .taken) ∙ c .before .is-leap .ensures) (omega arith)
 
 returns-2 : tie.Need-returns-2
-returns-2 c = month-common _ _ _ (c .before .is-leap .ensures) (c .if2 .left) (omega arith)
+returns-2 c = month-second _ _ false (sym (c .if2 .left) ∙ c .before .is-leap .ensures) (omega arith)
 
 returns-3 : tie.Need-returns-3
 unfolding lengthBy
