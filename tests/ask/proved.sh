@@ -12,6 +12,25 @@ if [ -e "$top/target/bin/desk" ]; then
         --serial 1121bcbf1e08cc02e792a406d3902f33ed9b --now 2012-10-25T00:00:00Z --verdict valid \
         --role delegate --marks all --signer "$room/delegate.der" | sed -n 1p)" \
         "good: the responder says that this card is good"
+    # Source document 000's sample A.2, without the certificate that it prints only in part. It writes its
+    # version, 0, before the responder's Name.
+    name=3038311e301c060355040a13154578616d706c65205472757374204e65\
+74776f726b31163014060355040b130d4578616d706c652c20496e632e
+    entry=180f32303035313130373233353234345a307330713049300906052b0e03021a05000414c0fe0278fc99188891b3f212\
+e9c7e1b21ab7bfc004140dfc1df0a9e0f01ce7f2b213177e6f8d157cd4f6021009342372e23aef467c832d07f8dc22ba\
+8000180f32303035313130373233353234345aa011180f32303035313131343233353234345a
+    signature=300d06092a864886f70d0101050500038181000e9ff052b1a742b86ec135e10ed5a9e2f5c53c16b1a3a7a2038a2b4d2c\
+f1b4988e19dbba1e1e72ff32f444e0b2771cd73c9e78f3d182688663127fa46ff04d84eaf8e2f75de34844572880c757\
+3cfee1420e5e17fc60d805d9efe253e7ab7f3aa884aa5e465be7b81fc6b135adffd1ccba587de8296079f74102eae082\
+0ea630
+    sample() { # VERSION: what is said of the sample with this version
+        files "$room/sample.der" "3082017b0a0100a08201743082017006092b0601050507300101048201613082015d3081c7a0030201${1}a13a$name$entry$signature"
+        ./ask "$room/sample.der" --name-hash c0fe0278fc99188891b3f212e9c7e1b21ab7bfc0 \
+            --key-hash 0dfc1df0a9e0f01ce7f2b213177e6f8d157cd4f6 --serial 09342372e23aef467c832d07f8dc22ba \
+            --now 2005-11-07T23:52:44Z --verdict valid --signer-name "$name" | sed -n 1p
+    }
+    is "a written version 0" "$(sample 00)" "good: the responder says that this card is good"
+    is "another version" "$(sample 01)" "$(./ask --slip 040300 | sed -n 1p)"
 else
     echo "ask: the program desk is not built, so it is not tried"
 fi

@@ -1,4 +1,5 @@
-"""The rows of the table: what is changed in a real responder's answer, and what document 01 says then.
+"""The rows of the table: what is changed in a real responder's answer, and what document 01 says then,
+document 02's C-12 (a written version) included.
 
     rows.py FOLDER
 
@@ -38,6 +39,10 @@ def many(count):
     return [extension(NOBODYS + bytes([i])) for i in range(count)]
 
 
+def version(number, *more):
+    return Piece(0xA0, [Piece(0x02, number), *more])
+
+
 def revoked(since, *reason):
     return Piece(0xA1, [at(since), *(Piece(0xA0, [piece]) for piece in reason)])
 
@@ -59,6 +64,14 @@ def tag(name, octets):
 
 def add(name, *pieces):
     return lambda r: getattr(r, name).inside.extend(pieces)
+
+
+def before(name, *pieces):
+    def change(r):
+        holder, place = r.holder(name)
+        holder.inside[place:place] = pieces
+
+    return change
 
 
 def time_at(name, seconds, form="%Y%m%d%H%M%SZ"):
@@ -104,6 +117,7 @@ def taken(rows):
     rows.alter("unknown", ["unknown"], in_place("standing", Piece(0x82)))
     rows.alter("SHA-1 without parameters", ["good"], without("hash_null"))
     rows.alter("the responder told by its key", ["good"], by_key(rows.key.hash))
+    rows.alter("the version written, 0", ["good"], before("responder", version(b"\0")))
     group = "critical extensions that are understood"
     understood = listed(extension(NONCE, TRUE), extension(EXTENDED_REVOKE, TRUE))
     rows.alter(group, ["good"], add("signed", understood))
@@ -149,8 +163,15 @@ def left_over(rows):
 
 
 def defaults(rows):
-    version = Piece(0xA0, [Piece(0x02, b"\0")])
-    rows.alter("version 1 written", 3, lambda r: r.signed.inside.insert(0, version))
+    group = "another version, or one in another form"
+    zero = version(b"\0")
+    others = [version(b"\1"), version(b"\0\0"), version(b""), version(b"\0", NULL)]
+    others += [Piece(0xA0, []), Piece(0xA0, [Piece(0x0A, b"\0")])]
+    others += [Piece(0xA0, zero.inside, "longer"), Piece(0xA1, zero.inside)]
+    for other in others:
+        rows.alter(group, 3, before("responder", other))
+    rows.alter(group, 3, before("responder", zero, zero))
+    rows.alter(group, 3, before("produced", zero))
     for name in ("signed", "entry"):
         rows.alter("critical FALSE written", 3, add(name, listed(extension(NOBODYS, FALSE))))
     for name in ("signed", "entry"):

@@ -24,6 +24,7 @@ use Rattle.read_entry.proofs.read_single.Reads as read-entry-read-single
 use Rattle.read_entry.proofs.read_entries.Reads as read-entry-read-entries
 use Rattle.read_entry_values.proofs.look_at.Reads as read-entry-values-look-at
 use Rattle.read_envelope.proofs.read_envelope.Reads as read-envelope-read-envelope
+use Rattle.read_version.proofs.read_version.Reads as read-version-read-version
 use Rattle.read_signer.proofs.read_responder.Reads as read-signer-read-responder
 use Rattle.read_signer.proofs.read_certificates.Reads as read-signer-read-certificates
 use Rattle.read_basic.proofs.signed_body.Reads as read-basic-signed-body
@@ -105,6 +106,10 @@ read-entry-values-look-at-settled = settled _ _ _ (λ k a. tt) (λ k a z e p. p)
 -- ── crate read_envelope ──
 pub read-envelope-read-envelope-settled : Settled read-envelope-read-envelope.Asked read-envelope-read-envelope.Learnt
 read-envelope-read-envelope-settled = settled _ _ _ (λ k a. tt) (λ k a z e p. p)
+
+-- ── crate read_version ──
+pub read-version-read-version-settled : Settled read-version-read-version.Asked read-version-read-version.Learnt
+read-version-read-version-settled = settled _ _ _ (λ k a. tt) (λ k a z e p. p)
 
 -- ── crate read_signer ──
 pub read-signer-read-responder-settled : Settled read-signer-read-responder.Asked read-signer-read-responder.Learnt

@@ -19,6 +19,7 @@ use Rattle.read_codes.proofs.read_reason_code.Reads as read-codes-read-reason-c
 use Rattle.read_codes.proofs.read_true.Reads as read-codes-read-true
 use Rattle.read_codes.proofs.read_good.Reads as read-codes-read-good
 use Rattle.read_codes.proofs.read_unknown.Reads as read-codes-read-unknown
+use Rattle.read_codes.proofs.read_v1.Reads as read-codes-read-v1
 
 -- ── crate tree ──
 pub tree-read-tree-settled : Settled tree-read-tree.Asked tree-read-tree.Learnt
@@ -68,3 +69,6 @@ read-codes-read-good-settled = settled _ _ _ (λ k a. tt) (λ k a z e p. p)
 
 pub read-codes-read-unknown-settled : Settled read-codes-read-unknown.Asked read-codes-read-unknown.Learnt
 read-codes-read-unknown-settled = settled _ _ _ (λ k a. tt) (λ k a z e p. p)
+
+pub read-codes-read-v1-settled : Settled read-codes-read-v1.Asked read-codes-read-v1.Learnt
+read-codes-read-v1-settled = settled _ _ _ (λ k a. tt) (λ k a z e p. p)

@@ -1,10 +1,12 @@
 -- Whole responses, read and written by computing: error responses, one of another type, a small basic
--- one, and the same with its version written.
--- unauthorized, m10, other-type, small-read, small-der, with-version.
--- A response with every optional part is in FullExample; what does not fit piece by piece is in Refusals.
+-- one, and the same with its version written, 0 and another.
+-- unauthorized, m10, other-type, small-read, small-der, version-read, version-der, version-1.
+-- A response with every optional part is in FullExample, one that a document prints in Sample; what does
+-- not fit piece by piece is in Refusals.
 -- Assumes nothing.
 use Prim.Native.Nat.{ℕ}
 use mathlib.Core.Path.{_≡_, refl}
+use mathlib.Core.Bool.{Bool, true, false}
 use mathlib.Core.List.{List, [], _∷_, _++_}
 use mathlib.Core.Option.{none, some}
 use lib.ListN.{replicate}
@@ -73,9 +75,11 @@ small =
     (0x30 ∷ 0x81 ∷ 0x8d ∷ 0x0a ∷ 0x01 ∷ 0x00 ∷ 0xa0 ∷ 0x81 ∷ 0x87 ∷ 0x30 ∷ 0x81 ∷ 0x84 ∷ typeElement)
     ++ (0x04 ∷ 0x77 ∷ 0x30 ∷ 0x75 ∷ 0x30 ∷ 0x67 ∷ fields) ++ signature
 
-abbrev smallReading : Basic
-smallReading = record {
+-- its reading, with the version written or not
+abbrev smallReading : Bool → Basic
+smallReading v = record {
   signed = record {
+    versioned = v;
     responder = byKey (replicate 20 0x33);
     producedAt = 1114909200;
     entries =
@@ -94,19 +98,29 @@ smallReading = record {
   certificates = none;
 }
 
-small-read : reading small ≡ reads (basic smallReading)
+small-read : reading small ≡ reads (basic (smallReading false))
 unfolding opened
 small-read = refl
 
-small-der : der (basic smallReading) ≡ small
+small-der : der (basic (smallReading false)) ≡ small
 unfolding opened
 small-der = refl
 
--- the same with its version written, as source document 000's sample A.2 does: it doesn't fit, and the
--- place is the version
-with-version : reading
-    ((0x30 ∷ 0x81 ∷ 0x92 ∷ 0x0a ∷ 0x01 ∷ 0x00 ∷ 0xa0 ∷ 0x81 ∷ 0x8c ∷ 0x30 ∷ 0x81 ∷ 0x89 ∷ typeElement)
-    ++ (0x04 ∷ 0x7c ∷ 0x30 ∷ 0x7a ∷ 0x30 ∷ 0x6c ∷ 0xa0 ∷ 0x03 ∷ 0x02 ∷ 0x01 ∷ 0x00 ∷ fields) ++ signature)
-    ≡ unfit 29
+-- ── the same with a version written ──
+abbrev versioned : ℕ → List ℕ
+versioned n =
+    (0x30 ∷ 0x81 ∷ 0x92 ∷ 0x0a ∷ 0x01 ∷ 0x00 ∷ 0xa0 ∷ 0x81 ∷ 0x8c ∷ 0x30 ∷ 0x81 ∷ 0x89 ∷ typeElement)
+    ++ (0x04 ∷ 0x7c ∷ 0x30 ∷ 0x7a ∷ 0x30 ∷ 0x6c ∷ 0xa0 ∷ 0x03 ∷ 0x02 ∷ 0x01 ∷ n ∷ fields) ++ signature
+
+version-read : reading (versioned 0) ≡ reads (basic (smallReading true))
 unfolding opened
-with-version = refl
+version-read = refl
+
+version-der : der (basic (smallReading true)) ≡ versioned 0
+unfolding opened
+version-der = refl
+
+-- version 1 doesn't fit, and the place is its INTEGER
+version-1 : reading (versioned 1) ≡ unfit 31
+unfolding opened
+version-1 = refl

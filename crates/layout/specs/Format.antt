@@ -1,8 +1,9 @@
 -- The layout of a response, as codecs, in the order and with the tags of source document 002, section
--- 4.2.1, and with document 01's limits at each line.
+-- 4.2.1, and with document 01's limits at each line. One field is not DER: the version may be written,
+-- though it has a default (document 02, C-12).
 -- algorithmIdentifier, certId, certStatus, extensions, singleResponse (in EntryFormat); responderId,
--- responseData, basicResponse, envelope. What they read is in Reading; elements by their tags are in
--- Kinds; how the fields get their names is in Names.
+-- version, signedFields, responseData, basicResponse, envelope. What they read is in Reading; elements
+-- by their tags are in Kinds; how the fields get their names is in Names.
 -- Assumes nothing.
 use Prim.Native.Nat.{ℕ}
 use mathlib.Core.Path.{refl}
@@ -11,15 +12,16 @@ use lib.Dec.{lit<}
 use Rattle.codec.specs.Codec.{Whole, Element}
 use Rattle.codec.specs.Tagged.{primitive}
 use Rattle.codec.specs.Sequence.{field, only}
+use Rattle.codec.specs.Option.{option}
 use Rattle.codec.specs.Choice.{choice}
 use Rattle.codec.specs.Many.{many}
-use Rattle.codec.specs.Starts.{Starts, Other}
+use Rattle.codec.specs.Starts.{Starts, Other, Apart}
 use Rattle.codec.specs.Tree.{Tree}
-use Rattle.codec.specs.StartsLaws.{tagged-starts, starts-other}
-use Rattle.layout.specs.Reading.{Entry, Responder, Signed, Basic}
-use Rattle.layout.specs.Names.{responder, signed, basic, Envelope, enveloped}
+use Rattle.codec.specs.StartsLaws.{tagged-starts, starts-other, field-apart}
+use Rattle.layout.specs.Reading.{Entry, Responder, byName, byKey, Signed, Basic}
+use Rattle.layout.specs.Names.{responder, SignedFields, signed, basic, Envelope, enveloped}
 use Rattle.layout.specs.Words as words
-use Rattle.layout.specs.Kinds.{sequence, zero, one, two, string, enumerated, optional, freeSequence, time, oid, tag-03, tag-a0, tag-a1, tag-a2}
+use Rattle.layout.specs.Kinds.{sequence, zero, one, two, string, enumerated, optional, freeSequence, time, oid, tag-02, tag-03, tag-a0, tag-a1, tag-a2}
 unfoldable pub use Rattle.layout.specs.EntryFormat.{algorithmBody, algorithmIdentifier, certBody, certId, goodStatus, unknownStatus, reason, revokedBody, revokedStatus, certStatus, newOid, critical, extensionBody, extensionAfter, extensionList, extensions, nextUpdate, singleBody, singleResponse}
 pub use Rattle.layout.specs.EntryFormat.{reason-starts, good-starts, unknown-starts, revoked-starts, revoked-other, bad-other, critical-starts, value-apart, extension-keyed, extensions-start, next-starts, extensions-apart}
 
@@ -34,20 +36,46 @@ pub name-starts : Starts 0xa1 nameId
 unfolding nameId
 name-starts = tagged-starts 0xa1 (only freeSequence) tag-a1 (lit< tt)
 
-pub key-other : Other 0xa1 keyId
+pub key-starts : Starts 0xa2 keyId
 unfolding keyId
-key-other = starts-other 0xa1 0xa2 keyId refl (tagged-starts 0xa2 (only (string (words.between 20 20))) tag-a2 (lit< tt))
+key-starts = tagged-starts 0xa2 (only (string (words.between 20 20))) tag-a2 (lit< tt)
+
+pub key-other : Other 0xa1 keyId
+key-other = starts-other 0xa1 0xa2 keyId refl key-starts
 
 unfoldable pub responderId : Element Responder
 responderId = responder (choice 0xa1 nameId keyId name-starts key-other)
 
--- ResponseData ::= SEQUENCE { responderID, producedAt, responses of 0 to 64, responseExtensions [1] OPTIONAL }
--- The version has a default and so is not written.
+pub responder-other : Other 0xa0 responderId
+unfolding responderId
+responder-other (byName n) h = starts-other 0xa0 0xa1 nameId refl name-starts n h
+responder-other (byKey k) h = starts-other 0xa0 0xa2 keyId refl key-starts k h
+
+-- ResponseData ::= SEQUENCE { version [0] DEFAULT v1, responderID, producedAt, responses of 0 to 64, responseExtensions [1] OPTIONAL }
+-- Version ::= INTEGER { v1(0) }: no other one is read
+unfoldable pub v1 : Element (Unit {0})
+v1 = primitive 0x02 words.nought tag-02 (lit< tt)
+
+unfoldable pub version : Element (Unit {0})
+version = zero (only v1)
+
+pub version-starts : Starts 0xa0 version
+unfolding version
+version-starts = tagged-starts 0xa0 (only v1) tag-a0 (lit< tt)
+
 unfoldable pub responses : Element (List Entry)
 responses = sequence (many 0 64 singleResponse)
 
+-- the fields after the version
+unfoldable pub signedFields : Whole SignedFields
+signedFields = field responderId (field time (field responses (optional 0xa1 extensions extensions-start)))
+
+pub fields-apart : Apart 0xa0 signedFields
+unfolding signedFields
+fields-apart = field-apart 0xa0 responderId (field time (field responses (optional 0xa1 extensions extensions-start))) responder-other
+
 unfoldable pub signedBody : Whole Signed
-signedBody = signed (field responderId (field time (field responses (optional 0xa1 extensions extensions-start))))
+signedBody = signed (option 0xa0 version signedFields version-starts fields-apart)
 
 unfoldable pub responseData : Element Signed
 responseData = sequence signedBody

@@ -53,6 +53,7 @@ fullEntries =
 abbrev fullReading : Basic
 fullReading = record {
   signed = record {
+    versioned = false;
     responder = byName (node 0x30 (more (node 0x31 stop) stop));
     producedAt = 1114909200;
     entries = fullEntries;

@@ -11,9 +11,11 @@ pub mod PartLimitsLaws
 pub mod LimitsLaws
 pub mod InnerLaws
 pub mod ReadLaws
+pub mod VersionLaws
 pub mod Theorem
 pub mod Opened
 pub mod Examples
 pub mod FullExample
+pub mod Sample
 pub mod Refusals
 pub mod Sha1

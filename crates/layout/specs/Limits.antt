@@ -103,7 +103,7 @@ abbrev pub ResponderOk : Responder → Type 0
 ResponderOk (byName n) = SequenceOk n
 ResponderOk (byKey k) = KeyOk k
 
--- the signed part: 0 to 64 entries
+-- the signed part: 0 to 64 entries; its version, written or not, has no limit
 pub record SignedOk (s : Signed) : Type 0 where
   pub responder : ResponderOk (s .responder)
   pub producedAt : TimeOk (s .producedAt)

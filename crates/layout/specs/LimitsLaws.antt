@@ -14,11 +14,11 @@ use Rattle.octets.specs.Octets.{Octets}
 use Rattle.codec.specs.Tree.{Tree}
 use Rattle.layout.specs.Reading.{Entry, Responder, byName, byKey, Signed, Basic}
 use Rattle.layout.specs.Limits.{TimeOk, OidOk, SequenceOk, ExtensionsOk, EntryOk, KeyOk, ResponderOk, SignedOk, SignatureOk, CertificatesOk, BasicOk, FailureOk}
-use Rattle.layout.specs.PartLimitsLaws.{option-limits, all-limits, between-limits, most-but, sequence-limits, oid-limits, time-limits, algorithm-limits, cert-limits, status-limits, extensions-limits}
+use Rattle.layout.specs.PartLimitsLaws.{option-limits, all-limits, there-limits, between-limits, most-but, sequence-limits, oid-limits, time-limits, algorithm-limits, cert-limits, status-limits, extensions-limits}
 use Rattle.layout.specs.Words.{statusOk}
 use Rattle.layout.specs.Kinds.{freeSequence}
 use Rattle.layout.specs.Names.{failure, success}
-use Rattle.layout.specs.Format.{extensions, nextUpdate, singleBody, singleResponse, nameId, keyId, responderId, responses, signedBody, responseData, signatureBits, certificates, basicBody, basicResponse, responseBytes, envelopeBody, envelope}
+use Rattle.layout.specs.Format.{extensions, nextUpdate, singleBody, singleResponse, nameId, keyId, responderId, v1, version, responses, signedFields, signedBody, responseData, signatureBits, certificates, basicBody, basicResponse, responseBytes, envelopeBody, envelope}
 
 -- ── an entry ──
 pub entry-limits : (e : Entry) → singleResponse .ok e ↔ EntryOk e
@@ -59,22 +59,25 @@ responder-limits (byName n) = sequence-limits n
 responder-limits (byKey k) = key-limits k
 
 pub signed-limits : (s : Signed) → responseData .ok s ↔ SignedOk s
-unfolding responseData signedBody responses
+unfolding responseData signedBody signedFields responses version v1
 signed-limits s =
     let a = all-limits (singleResponse .ok) EntryOk entry-limits (s .entries) in
     let x = option-limits (extensions .ok) ExtensionsOk extensions-limits (s .extensions) in (
       λ h. record {
-        responder = responder-limits (s .responder) .0 (h .0);
-        producedAt = time-limits (s .producedAt) .0 (h .1 .0);
-        entries = a .0 (h .1 .1 .0 .0);
-        most = h .1 .1 .0 .2;
-        extensions = x .0 (h .1 .1 .1 .0);
+        responder = responder-limits (s .responder) .0 (h .1 .0);
+        producedAt = time-limits (s .producedAt) .0 (h .1 .1 .0);
+        entries = a .0 (h .1 .1 .1 .0 .0);
+        most = h .1 .1 .1 .0 .2;
+        extensions = x .0 (h .1 .1 .1 .1 .0);
       },
       λ h. (
-        responder-limits (s .responder) .1 (h .responder),
+        there-limits (version .ok) tt (s .versioned),
         (
-          time-limits (s .producedAt) .1 (h .producedAt),
-          ((a .1 (h .entries), omega arith, h .most), (x .1 (h .extensions), tt)),
+          responder-limits (s .responder) .1 (h .responder),
+          (
+            time-limits (s .producedAt) .1 (h .producedAt),
+            ((a .1 (h .entries), omega arith, h .most), (x .1 (h .extensions), tt)),
+          ),
         ),
       ),
     )

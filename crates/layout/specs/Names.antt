@@ -1,6 +1,6 @@
 -- The fields of the layout under their names: each codec of pairs and choices, as a codec of a record
 -- or type of Reading. Nothing is read or written another way.
--- algorithm, cert, status, extension, entry, responder, signed, basic; Envelope, enveloped.
+-- algorithm, cert, status, extension, entry, responder, SignedFields, signed, basic; Envelope, enveloped.
 -- Assumes nothing.
 use Prim.Native.Nat.{ℕ}
 use mathlib.Core.Path.{_≡_, refl, sym, ap}
@@ -52,7 +52,7 @@ status-parted (inr (inr r)) = refl
 abbrev pub status : Element StatusParts → Element Status
 status e = mappedElement statusFrom statusParts status-named status-parted e
 
--- an extension is critical where TRUE is written
+-- whether an element without a value is written: an extension is critical where TRUE is
 abbrev pub isThere : Option (Unit {0}) → Bool
 isThere none = false
 isThere (some u) = true
@@ -111,10 +111,38 @@ responder-parted (inr k) = refl
 abbrev pub responder : Element (Tree ⊎ List ℕ) → Element Responder
 responder e = mappedElement responderOf responderParts responder-named responder-parted e
 
-abbrev pub signed : Whole (Responder × (ℕ × (List Entry × Option (List Extension)))) → Whole Signed
-signed w =
-    mapped (λ x. record { responder = x .0; producedAt = x .1 .0; entries = x .1 .1 .0; extensions = x .1 .1 .1 })
-    (λ s. (s .responder, (s .producedAt, (s .entries, s .extensions)))) (λ b. refl) (λ a. refl) w
+-- the fields of a signed part, without its version
+abbrev pub SignedFields : Type 0
+SignedFields = Responder × (ℕ × (List Entry × Option (List Extension)))
+
+abbrev pub fieldsOf : Signed → SignedFields
+fieldsOf s = (s .responder, (s .producedAt, (s .entries, s .extensions)))
+
+-- maybe the version, then the fields
+abbrev pub SignedParts : Type 0
+SignedParts = Option (Unit {0}) × SignedFields
+
+abbrev pub signedFrom : SignedParts → Signed
+signedFrom x =
+    record { versioned = isThere (x .0); responder = x .1 .0; producedAt = x .1 .1 .0; entries = x .1 .1 .1 .0; extensions = x .1 .1 .1 .1 }
+
+abbrev pub signedParts : Signed → SignedParts
+signedParts s = (there (s .versioned), fieldsOf s)
+
+pub signed-named : (s : Signed) → signedFrom (signedParts s) ≡ s
+signed-named s = λ i. record {
+  versioned = is-there (s .versioned) i;
+  responder = s .responder;
+  producedAt = s .producedAt;
+  entries = s .entries;
+  extensions = s .extensions;
+}
+
+pub signed-parted : (x : SignedParts) → signedParts (signedFrom x) ≡ x
+signed-parted x = λ i. (there-is (x .0) i, x .1)
+
+abbrev pub signed : Whole SignedParts → Whole Signed
+signed w = mapped signedFrom signedParts signed-named signed-parted w
 
 abbrev pub basic : Whole (Signed × (Algorithm × (List ℕ × Option (List Tree)))) → Whole Basic
 basic w =

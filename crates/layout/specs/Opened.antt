@@ -32,7 +32,7 @@ use Rattle.codec.specs.TreeTagged.{treeTaggedDec}
 use Rattle.layout.specs.Words.{timeRead, serialRead, between, bitsRead, singleRead, reasonOk, statusOk}
 use Rattle.layout.specs.Kinds.{free, freeSequence, time, serial, oid, hash}
 use Rattle.layout.specs.Format.{algorithmBody, algorithmIdentifier, certBody, certId, reason, goodStatus, unknownStatus, revokedBody, revokedStatus, certStatus, newOid, critical, extensionBody, extensionAfter, extensionList, extensions, nextUpdate, singleBody, singleResponse}
-use Rattle.layout.specs.Format.{nameId, keyId, responderId, responses, signedBody, responseData, signatureBits, certificates, basicBody, basicResponse, responseBytes, envelopeBody, envelope}
+use Rattle.layout.specs.Format.{nameId, keyId, responderId, v1, version, responses, signedFields, signedBody, responseData, signatureBits, certificates, basicBody, basicResponse, responseBytes, envelopeBody, envelope}
 use Rattle.layout.specs.Read.{der, reading}
 
 -- octets, elements, OIDs, serials and times
@@ -52,7 +52,7 @@ contents = tt
 
 -- the layout
 unfoldable pub page : Unit {0}
-unfolding algorithmBody algorithmIdentifier certBody certId reason goodStatus unknownStatus revokedBody revokedStatus certStatus newOid critical extensionBody extensionAfter extensionList extensions nextUpdate singleBody singleResponse nameId keyId responderId responses signedBody responseData signatureBits certificates basicBody basicResponse responseBytes envelopeBody envelope
+unfolding algorithmBody algorithmIdentifier certBody certId reason goodStatus unknownStatus revokedBody revokedStatus certStatus newOid critical extensionBody extensionAfter extensionList extensions nextUpdate singleBody singleResponse nameId keyId responderId v1 version responses signedFields signedBody responseData signatureBits certificates basicBody basicResponse responseBytes envelopeBody envelope
 page = tt
 
 unfoldable pub opened : Unit {0}

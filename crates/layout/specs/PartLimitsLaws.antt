@@ -1,5 +1,5 @@
 -- The plain limits of what an entry is made of are exactly what its codecs ask.
--- option-limits, all-limits; between-limits; reason-limits, free-limits, sequence-limits, oid-limits,
+-- option-limits, all-limits, there-limits; between-limits; reason-limits, free-limits, sequence-limits, oid-limits,
 -- hash-limits, time-limits, serial-limits; algorithm-limits, cert-limits, revoked-limits, status-limits,
 -- extension-limits, extensions-limits. The entry and the response are in LimitsLaws.
 -- Assumes nothing.
@@ -37,6 +37,11 @@ all-there f g h (a ∷ l) x = (h a (x .0), all-there f g h l (x .1))
 
 pub all-limits : {A : Type 0} (f g : A → Type 0) → ((a : A) → f a ↔ g a) → (l : List A) → All f l ↔ All g l
 all-limits f g h l = (all-there f g (λ a. h a .0) l, all-there g f (λ a. h a .1) l)
+
+-- an element without a value has no limits, written or not
+pub there-limits : (f : Unit {0} → Type 0) → f tt → (b : Bool) → OptionOk f (there b)
+there-limits f h true = h
+there-limits f h false = tt
 
 -- ── tests ──
 both : (b c : Bool) → cond b c false ≡ true → (b ≡ true) × (c ≡ true)
@@ -145,12 +150,8 @@ pub extension-limits : (e : Extension) → extensionAfter [] .ok e ↔ Extension
 unfolding extensionAfter extensionBody critical
 extension-limits e = (
   λ h. record { oid = new-limits (e .oid) .0 (h .0); value = h .1 .1 .0 },
-  λ h. (new-limits (e .oid) .1 (h .oid), (written (e .critical), (h .value, refl))),
+  λ h. (new-limits (e .oid) .1 (h .oid), (there-limits (critical .ok) tt (e .critical), (h .value, refl))),
 )
-  where
-    written : (b : Bool) → OptionOk (critical .ok) (there b)
-    written true = tt
-    written false = tt
 
 pub extensions-limits : (l : List Extension) → extensions .ok l ↔ ExtensionsOk l
 unfolding extensions extensionList

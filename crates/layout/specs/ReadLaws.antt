@@ -1,5 +1,5 @@
 -- How a reading comes from the envelope and the basic response, case by case: what Theorem is made of.
--- From, reads-from; Wrong, unfit-from; fits-64, string-fits, string-ok.
+-- From, reads-from; Wrong, unfit-from; fits-64, type-oid, string-fits, string-ok.
 -- Assumes nothing.
 use Prim.Native.Nat.{ℕ, _+_, _-_, _^_, _≤_, _<_}
 use native.Mathlib.Omega.{arith}
@@ -86,7 +86,7 @@ pub fits-64 : (n : ℕ) → n ≤ 16384 → n < 2 ^ 64
 fits-64 n h = omega arith
 
 -- the basic type is an OID
-type-oid : OidOk basicType
+pub type-oid : OidOk basicType
 unfolding oidOk oidFrom
 type-oid = record { octets = omega arith; rule = refl }
 

@@ -1,7 +1,8 @@
 -- The reading of a response: every field of document 01's layout, serials as whole numbers, times as
 -- seconds since 1970, a reason as a number, free elements as trees, OIDs and strings as octets, each
--- optional part as absent or present. Lengths are no part of it.
--- Algorithm, CertId, Status, Extension, Entry, Responder, Signed, Basic, Reading.
+-- optional part as absent or present; and, by document 02's C-12, whether the version is written. Lengths
+-- are no part of it.
+-- Algorithm, CertId, Status, Extension, Entry, Responder, Signed, withVersion, Basic, Reading.
 -- Assumes nothing.
 use Prim.Native.Nat.{ℕ}
 use mathlib.Core.Bool.{Bool}
@@ -44,12 +45,18 @@ pub data Responder : Type 0 where
   byName : Tree → Responder
   byKey : List ℕ → Responder
 
--- the signed part
+-- the signed part; its version is always 0, and written or not
 pub record Signed : Type 0 where
+  pub versioned : Bool
   pub responder : Responder
   pub producedAt : ℕ
   pub entries : List Entry
   pub extensions : Option (List Extension)
+
+-- the same signed part with its version written, or not
+abbrev pub withVersion : Bool → Signed → Signed
+withVersion v d =
+    record { versioned = v; responder = d .responder; producedAt = d .producedAt; entries = d .entries; extensions = d .extensions }
 
 -- a basic response; the signature is without its leading 00
 pub record Basic : Type 0 where

@@ -4,10 +4,10 @@ use Prim.Native.Nat.{ℕ, zero, suc, _*_}
 use mathlib.Core.Path.{_≡_, refl}
 use mathlib.Core.List.{List, [], _∷_, _++_}
 use lib.ListN.{replicate}
-use Rattle.codec.specs.Codec.{got, bad}
+use Rattle.codec.specs.Codec.{broke, got, bad}
 use Rattle.codec.specs.Tree.{Tree, node, stop, more}
 use Rattle.layout.specs.Kinds.{free, serial, hash}
-use Rattle.layout.specs.Format.{certStatus, extensionAfter, extensions, responderId, signatureBits}
+use Rattle.layout.specs.Format.{certStatus, extensionAfter, extensions, responderId, version, signedBody, signatureBits}
 use Rattle.layout.specs.Read.{unfit, reading}
 use Rattle.layout.specs.Opened.{opened}
 use Rattle.layout.specs.Examples.{first}
@@ -37,6 +37,31 @@ type-rule : reading
     ≡ unfit 9
 unfolding opened
 type-rule = refl
+
+-- ── the version ──
+-- 0 in two octets: its INTEGER's place
+version-long : version .dec (0xa0 ∷ 0x04 ∷ 0x02 ∷ 0x02 ∷ 0x00 ∷ 0x00 ∷ []) ≡ bad 2
+unfolding opened
+version-long = refl
+
+-- more in the A0 than the INTEGER: the first octet left over; nothing there: the end of the A0
+version-more : version .dec (0xa0 ∷ 0x05 ∷ 0x02 ∷ 0x01 ∷ 0x00 ∷ 0x05 ∷ 0x00 ∷ []) ≡ bad 5
+unfolding opened
+version-more = refl
+
+version-none : version .dec (0xa0 ∷ 0x00 ∷ []) ≡ bad 2
+unfolding opened
+version-none = refl
+
+-- a version twice: the second stands where the responder id should
+version-twice : signedBody .dec (0xa0 ∷ 0x03 ∷ 0x02 ∷ 0x01 ∷ 0x00 ∷ 0xa0 ∷ 0x03 ∷ 0x02 ∷ 0x01 ∷ 0x00 ∷ []) ≡ broke 5
+unfolding opened
+version-twice = refl
+
+-- under A1, where a Name should be
+version-a1 : signedBody .dec (0xa1 ∷ 0x03 ∷ 0x02 ∷ 0x01 ∷ 0x00 ∷ []) ≡ broke 2
+unfolding opened
+version-a1 = refl
 
 -- ── extensions ──
 -- a written FALSE

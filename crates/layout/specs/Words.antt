@@ -1,6 +1,6 @@
 -- The contents of the layout's primitive elements: what each may be, and as what it is read.
--- timeContent and serialContent (in Numbers), oidContent, bits, single, empty, yes; the tests between, anything, reasonOk,
--- statusOk.
+-- timeContent and serialContent (in Numbers), oidContent, bits, single, empty, yes, nought; the tests between, anything,
+-- reasonOk, statusOk.
 -- Assumes nothing.
 use Prim.Native.Nat.{ℕ, _<_}
 use native.Mathlib.Omega.{arith}
@@ -105,3 +105,7 @@ empty = fixedContent [] tt
 -- TRUE, as DER writes it
 abbrev pub yes : Content (Unit {0})
 yes = fixedContent (255 ∷ []) (lit< tt, tt)
+
+-- the number 0
+abbrev pub nought : Content (Unit {0})
+nought = fixedContent (0 ∷ []) (lit< tt, tt)

@@ -56,7 +56,7 @@ IsBasic s = (b : Basic) × BasicOk b × (s ≡ der (basic b))
 -- ── what read_response::judge answers ──
 
 -- the layout's envelope of status 0 is those octets
-success-form : (t c : List ℕ) → envelope .enc (success t c)
+pub success-form : (t c : List ℕ) → envelope .enc (success t c)
     ≡ formOf 0x30 ((0x0a ∷ 0x01 ∷ 0x00 ∷ []) ++ formOf 0xa0 (formOf 0x30 (formOf 0x06 t ++ formOf 0x04 c)))
 unfolding opened
 success-form t c = refl

@@ -1,5 +1,6 @@
 pub mod OneReading
 pub mod Envelopes
+pub mod Version
 pub mod Answers
 pub mod Refusals
 pub mod Rows

@@ -128,9 +128,9 @@ abbrev pub nameTold : Name → Told
 nameTold (name.Is start len next) = given (start ∷ len ∷ next ∷ [])
 nameTold name.No = wrong
 
--- how many octets the responder id takes; where the entries are, and how many
+-- where the responder id is, after the version, and how many octets it takes; where the entries are, and how many
 abbrev pub insideTold : Inside → Told
-insideTold (inside.Holds responder start len n) = given (responder ∷ start ∷ len ∷ n ∷ [])
+insideTold (inside.Holds from responder start len n) = given (from ∷ responder ∷ start ∷ len ∷ n ∷ [])
 insideTold (inside.Broken p) = wrong
 
 -- how many octets the algorithm takes, and where the signature is

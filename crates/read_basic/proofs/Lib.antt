@@ -1,3 +1,4 @@
 pub mod TailCases
 pub mod ListCases
 pub mod SignedCases
+pub mod VersionCases

@@ -1,21 +1,15 @@
--- The readers of the signed part's content, from producedAt on and as a whole: each reads an element and
--- then the rest, as MoreLaws has it.
--- place, moved, movedInside; produced-more, signed-more.
+-- The readers of the signed part's fields, from producedAt on and from the responder id on: each reads an
+-- element and then the rest, as MoreLaws has it. The version before them is in VersionCases.
+-- place, moved, movedInside; produced-more, fields-more.
 -- Assumes nothing.
 use Prim.Native.Nat.{ℕ, _+_}
 use native.Mathlib.Omega.{arith}
 use mathlib.Core.Path.{refl}
-use mathlib.Core.List.{List}
-use mathlib.Core.Option.{Option}
 use lib.ListN.{length-append}
-use Rattle.codec.specs.Codec.{Read}
-use Rattle.codec.specs.Mapped.{mappedDec}
-use Rattle.codec.specs.Outcome.{renamed}
-use Rattle.layout.specs.Reading.{Entry, Extension, Responder}
 use Rattle.layout.specs.Kinds.{time}
-use Rattle.layout.specs.Format.{responderId, signedBody}
+use Rattle.layout.specs.Format.{responderId, signedFields}
 use Rattle.read_ending.specs.Ends.{extensionsOn}
-use Rattle.read_basic.specs.Views.{responsesOn, producedOn, listedOf, producedOf, insideSigned}
+use Rattle.read_basic.specs.Views.{responsesOn, producedOn, listedOf, producedOf, insideAt, insideFields}
 use Rattle.read_basic.specs.MoreLaws.{More}
 use Rattle.read_basic.specs.declared.signed.Listed.{Listed}
 use Rattle.read_basic.specs.declared.signed.Listed.the-variants as listed
@@ -34,7 +28,7 @@ moved n (listed.Broken p) = listed.Broken (n + p)
 
 -- after a responder id of n octets
 abbrev pub movedInside : ℕ → Listed → Inside
-movedInside n (listed.Holds b l k) = inside.Holds n (n + b) l k
+movedInside n (listed.Holds b l k) = inside.Holds 0 n (n + b) l k
 movedInside n (listed.Broken p) = inside.Broken (n + p)
 
 -- producedAt, then the rest
@@ -51,11 +45,10 @@ produced-more = record {
 }
 
 -- the responder id, then the rest
-pub signed-more : More responderId producedOn producedOf (λ s. insideSigned (signedBody .dec s)) inside.Broken movedInside place
-unfolding signedBody mappedDec producedOn responsesOn extensionsOn producedOf insideSigned
-signed-more = record {
-  both = λ (o : Read (Responder × (ℕ × (List Entry × Option (List Extension))))). insideSigned
-      (renamed (λ x. record { responder = x .0; producedAt = x .1 .0; entries = x .1 .1 .0; extensions = x .1 .1 .1 }) o);
+pub fields-more : More responderId producedOn producedOf (λ s. insideFields (signedFields .dec s)) inside.Broken movedInside place
+unfolding signedFields producedOn responsesOn extensionsOn producedOf insideFields insideAt
+fields-more = record {
+  both = insideFields;
   same = λ s. refl;
   wrong = λ p. refl;
   holds = λ a b. refl;

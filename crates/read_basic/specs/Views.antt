@@ -1,19 +1,27 @@
 -- The pieces of a basic response, each from one of its fields on, and where their parts are: what the
 -- readers of this crate answer. A place is counted from the start of the piece.
--- responderSize, producedSize; responsesOn, producedOn, listedOf, producedOf, insideSigned; certificatesOn,
--- signatureOn, algorithmOn, signatureSpot, tailOf. The signed part's content is layout's signedBody.
+-- versionSize, responderSize, producedSize; responsesOn, producedOn, listedOf, producedOf, insideAt,
+-- insideFields, versionStep, insideSigned; certificatesOn, signatureOn, algorithmOn, signatureSpot, tailOf.
+-- The signed part's content is layout's signedBody, and signedFields without a version.
 -- Assumes nothing.
 use Prim.Native.Nat.{ℕ, _+_, _-_}
+use mathlib.Core.Bool.{cond}
 use mathlib.Core.List.{List}
 use mathlib.Core.Option.{Option}
 use lib.ListN.{length}
 use Rattle.codec.specs.Codec.{Read, read, broke, Whole}
 use Rattle.codec.specs.Sequence.{field}
+use Rattle.codec.specs.Option.{optionEnc}
+use Rattle.codec.specs.Starts.{startsWith}
 use Rattle.codec.specs.Many.{forms}
 use Rattle.codec.specs.Tree.{Tree}
+use Rattle.codec.specs.Views.{stepOf}
+use Rattle.codec.specs.declared.Step.{Step}
+use Rattle.codec.specs.declared.Step.the-variants.{Taken}
 use Rattle.layout.specs.Reading.{Algorithm, Extension, Entry, Signed}
+use Rattle.layout.specs.Names.{there, SignedFields, fieldsOf}
 use Rattle.layout.specs.Kinds.{optional, time}
-use Rattle.layout.specs.Format.{singleResponse, responderId, responses, algorithmIdentifier, signatureBits, certificates, certificates-start}
+use Rattle.layout.specs.Format.{singleResponse, responderId, version, responses, algorithmIdentifier, signatureBits, certificates, certificates-start}
 use Rattle.read_ending.specs.Ends.{extensionsOn}
 use Rattle.read_content.specs.declared.Spot.{Spot}
 use Rattle.read_content.specs.declared.Spot.the-variants as spot
@@ -25,7 +33,10 @@ use Rattle.read_basic.specs.declared.Tail.{Tail}
 use Rattle.read_basic.specs.declared.Tail.the-variants as tail
 
 -- ── the signed part's content ──
--- how many octets the responder id and producedAt take
+-- how many octets the version takes, none where it is not written; and the responder id and producedAt
+abbrev pub versionSize : Signed → ℕ
+versionSize d = length (optionEnc (version .enc) (there (d .versioned)))
+
 abbrev pub responderSize : Signed → ℕ
 responderSize d = length (responderId .enc (d .responder))
 
@@ -56,11 +67,25 @@ unfoldable pub producedOf : Read (ℕ × (List Entry × Option (List Extension))
 producedOf (read x) = listed.Holds (length (time .enc (x .0)) + entriesPlace (x .1 .0)) (entriesLength (x .1 .0)) (length (x .1 .0))
 producedOf (broke p) = listed.Broken p
 
--- how many octets the responder id takes, and where the entries are
+-- where the responder id is, n octets on, and where the entries are after its start
+unfoldable pub insideAt : ℕ → SignedFields → Inside
+insideAt n x =
+    inside.Holds n (length (responderId .enc (x .0)))
+    (length (responderId .enc (x .0)) + (length (time .enc (x .1 .0)) + entriesPlace (x .1 .1 .0))) (entriesLength (x .1 .1 .0))
+    (length (x .1 .1 .0))
+
+-- the fields without a version
+unfoldable pub insideFields : Read SignedFields → Inside
+insideFields (read x) = insideAt 0 x
+insideFields (broke p) = inside.Broken p
+
+-- the version, by the first octet: where it is not written it takes no octet
+unfoldable pub versionStep : List ℕ → Step
+versionStep s = cond (startsWith 0xa0 s) (stepOf (version .dec s)) (Taken 0)
+
+-- the fields, after the version where it is written
 unfoldable pub insideSigned : Read Signed → Inside
-insideSigned (read d) =
-    inside.Holds (responderSize d) (responderSize d + (producedSize d + entriesPlace (d .entries))) (entriesLength (d .entries))
-    (length (d .entries))
+insideSigned (read d) = insideAt (versionSize d) (fieldsOf d)
 insideSigned (broke p) = inside.Broken p
 
 -- ── what follows the signed part ──

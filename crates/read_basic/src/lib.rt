@@ -9,17 +9,18 @@ mod tails; // what follows the signed part
 pub use signed::signed_body;
 pub use tails::algorithm_and_more;
 
-// Where the parts of the signed part's content are, counted from its start.
+// Where the parts of the signed part's content are.
 pub enum Inside {
-    // How many octets the responder id takes; where the entries start, how many octets they have, and
-    // how many they are.
+    // Where the responder id starts, which is after the version; how many octets it takes; where the
+    // entries start, counted from there, how many octets they have, and how many they are.
     Holds {
+        from: usize,
         responder: usize,
         start: usize,
         len: usize,
         count: usize,
     },
-    // The place that is wrong.
+    // The place that is wrong, counted from the content's start.
     Broken(usize),
 }
 

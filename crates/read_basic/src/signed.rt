@@ -1,12 +1,12 @@
-// The signed part's content: responder id, producedAt, entries, maybe extensions.
+// The signed part's content: maybe the version, then responder id, producedAt, entries, maybe extensions.
 use crate::Inside;
 use codec::Fit;
 use codec::Step;
 use read_content::Spot;
 use read_entry::Count;
 ghost use mathlib.Core.Path.{_≡_};
-ghost use Rattle.layout.specs.Format.{signedBody};
-ghost use Rattle.read_basic.specs.Views.{responsesOn, producedOn, listedOf, producedOf, insideSigned};
+ghost use Rattle.layout.specs.Format.{signedFields, signedBody};
+ghost use Rattle.read_basic.specs.Views.{responsesOn, producedOn, versionStep, listedOf, producedOf, insideFields, insideSigned};
 
 // Where the entries are, counted from a part's start.
 pub enum Listed {
@@ -78,8 +78,8 @@ fn produced_and_more(s: &[u8]) -> Listed
 }
 
 // The responder id, then producedAt, the entries and maybe extensions.
-pub fn signed_body(s: &[u8]) -> Inside
-    ensures { λ r. ⌜ r ≡ insideSigned (signedBody .dec (now (s .entry))) ⌝ }
+fn signed_fields(s: &[u8]) -> Inside
+    ensures { λ r. ⌜ r ≡ insideFields (signedFields .dec (now (s .entry))) ⌝ }
 {
     let responder = read_signer::read_responder(s);
     match responder {
@@ -92,14 +92,57 @@ pub fn signed_body(s: &[u8]) -> Inside
                     Inside::Broken(place)
                 }
                 Listed::Holds { start, len, count } => {
-                    let from = n + start;
+                    let entries = n + start;
                     Inside::Holds {
+                        from: 0,
                         responder: n,
-                        start: from,
+                        start: entries,
                         len,
                         count,
                     }
                 }
+            }
+        }
+    }
+}
+
+// The version, where it is written: how many octets it takes, and none where it is not.
+fn version_maybe(s: &[u8]) -> Step
+    ensures { λ r. ⌜ r ≡ versionStep (now (s .entry)) ⌝ }
+{
+    if read_sequence::starts_with(s, 0xa0) {
+        return read_version::read_version(s);
+    }
+    Step::Taken(0)
+}
+
+// Maybe the version, then the other fields.
+pub fn signed_body(s: &[u8]) -> Inside
+    ensures { λ r. ⌜ r ≡ insideSigned (signedBody .dec (now (s .entry))) ⌝ }
+{
+    let version = version_maybe(s);
+    match version {
+        Step::Bad(p) => Inside::Broken(p),
+        Step::Taken(n) => {
+            let rest = signed_fields(&s[n..]);
+            match rest {
+                Inside::Broken(p) => {
+                    let place = n + p;
+                    Inside::Broken(place)
+                }
+                Inside::Holds {
+                    responder,
+                    start,
+                    len,
+                    count,
+                    ..
+                } => Inside::Holds {
+                    from: n,
+                    responder,
+                    start,
+                    len,
+                    count,
+                },
             }
         }
     }

@@ -1,10 +1,10 @@
 -- Contents of one octet and of none, seen as positions: what their readers answer.
--- codeOf; singleAt, emptyAt. The laws are in CodeLaws.
+-- codeOf; singleAt, fixedAt, emptyAt. The laws are in CodeLaws.
 -- That an element takes so many octets is stepOf, in codec's Views.
 -- Assumes nothing.
 use Prim.Native.Nat.{ℕ}
 use mathlib.Core.Bool.{true}
-use mathlib.Core.List.{List, []}
+use mathlib.Core.List.{List, [], _∷_}
 use Rattle.codec.specs.Codec.{Got, got, bad}
 use Rattle.codec.specs.Tagged.{own, taggedDec}
 use Rattle.codec.specs.Contents.{fixedRead, filledDec}
@@ -20,6 +20,10 @@ codeOf (bad p) = code.Wrong p
 -- an element with this tag whose content is one octet, whatever it is
 unfoldable pub singleAt : ℕ → List ℕ → Got ℕ
 singleAt t s = taggedDec own t (filledDec (singleRead (λ x. true))) s
+
+-- an element with this tag whose content is this octet
+unfoldable pub fixedAt : ℕ → ℕ → List ℕ → Got (Unit {0})
+fixedAt t x s = taggedDec own t (filledDec (fixedRead (x ∷ []))) s
 
 -- an element with this tag and no content
 unfoldable pub emptyAt : ℕ → List ℕ → Got (Unit {0})

@@ -11,7 +11,7 @@ use Rattle.codec.specs.Views.{stepOf}
 use Rattle.codec.specs.declared.Step.the-variants.{Taken, Bad}
 use Rattle.layout.specs.Words.{singleRead, statusOk, reasonOk}
 use Rattle.layout.specs.Kinds.{enumerated}
-use Rattle.layout.specs.Format.{critical, goodStatus, unknownStatus}
+use Rattle.layout.specs.Format.{critical, goodStatus, unknownStatus, v1}
 use Rattle.read_codes.specs.Codes.{codeOf}
 use Rattle.read_codes.specs.declared.Code.the-variants as code
 
@@ -52,3 +52,12 @@ good-octet = refl
 unknown-is : stepOf (unknownStatus .dec (0x82 ∷ 0 ∷ [])) ≡ Taken 2
 unfolding stepOf unknownStatus taggedDec filledDec fixedRead sameOf headerOf tagOk lengthAt insideOf
 unknown-is = refl
+
+-- the version v1 is 00 and nothing else
+version-zero : stepOf (v1 .dec (2 ∷ 1 ∷ 0 ∷ [])) ≡ Taken 3
+unfolding stepOf v1 taggedDec filledDec fixedRead sameOf headerOf tagOk lengthAt insideOf
+version-zero = refl
+
+version-one : stepOf (v1 .dec (2 ∷ 1 ∷ 1 ∷ [])) ≡ Bad 0
+unfolding stepOf v1 taggedDec filledDec fixedRead sameOf headerOf tagOk lengthAt insideOf
+version-one = refl

@@ -10,6 +10,7 @@ pub use singles::read_good;
 pub use singles::read_reason_code;
 pub use singles::read_true;
 pub use singles::read_unknown;
+pub use singles::read_v1;
 
 // The element of one octet at the head of a part.
 pub enum Code {

@@ -6,8 +6,8 @@ ghost use mathlib.Core.Path.{_≡_};
 ghost use Rattle.codec.specs.Views.{stepOf};
 ghost use Rattle.layout.specs.Words.{statusOk, reasonOk};
 ghost use Rattle.layout.specs.Kinds.{enumerated};
-ghost use Rattle.layout.specs.Format.{critical, goodStatus, unknownStatus};
-ghost use Rattle.read_codes.specs.Codes.{codeOf, singleAt, emptyAt};
+ghost use Rattle.layout.specs.Format.{critical, goodStatus, unknownStatus, v1};
+ghost use Rattle.read_codes.specs.Codes.{codeOf, singleAt, fixedAt, emptyAt};
 
 // A response status: 0, 1, 2, 3, 5 or 6.
 fn status_fits(value: u8) -> bool
@@ -43,6 +43,23 @@ fn read_single(s: &[u8], tag: u8) -> Code
             let value = s[start];
             let next = start + 1;
             Code::Read { value, next }
+        }
+    }
+}
+
+// An element with this tag and this one octet.
+fn read_fixed(s: &[u8], tag: u8, octet: u8) -> Step
+    ensures { λ r. ⌜ r ≡ stepOf (fixedAt tag octet (now (s .entry))) ⌝ }
+{
+    let code = read_single(s, tag);
+    match code {
+        Code::Wrong(p) => Step::Bad(p),
+        Code::Read { value, next } => {
+            if value == octet {
+                Step::Taken(next)
+            } else {
+                Step::Bad(0)
+            }
         }
     }
 }
@@ -101,17 +118,14 @@ pub fn read_reason_code(s: &[u8]) -> Step
 pub fn read_true(s: &[u8]) -> Step
     ensures { λ r. ⌜ r ≡ stepOf (critical .dec (now (s .entry))) ⌝ }
 {
-    let code = read_single(s, 0x01);
-    match code {
-        Code::Wrong(p) => Step::Bad(p),
-        Code::Read { value, next } => {
-            if value == 0xff {
-                Step::Taken(next)
-            } else {
-                Step::Bad(0)
-            }
-        }
-    }
+    read_fixed(s, 0x01, 0xff)
+}
+
+// The version v1, which is 0: 02 01 00.
+pub fn read_v1(s: &[u8]) -> Step
+    ensures { λ r. ⌜ r ≡ stepOf (v1 .dec (now (s .entry))) ⌝ }
+{
+    read_fixed(s, 0x02, 0x00)
 }
 
 // Good: 80 00.

@@ -23,7 +23,7 @@ use Rattle.read_content.specs.Spots.{expected}
 use Rattle.read_content.specs.ExpectLaws.{never, content-end, tagged-at, tagged-wrong, expected-wrong}
 use Rattle.read_content.specs.declared.Spot.{Spot}
 use Rattle.read_content.specs.declared.Spot.the-variants as spot
-use Rattle.read_basic.specs.Views.{certificatesOn, signatureOn, algorithmOn, insideSigned, tailOf}
+use Rattle.read_basic.specs.Views.{versionSize, certificatesOn, signatureOn, algorithmOn, insideAt, insideSigned, tailOf}
 use Rattle.read_basic.specs.declared.Inside.{Inside}
 use Rattle.read_basic.specs.declared.Inside.the-variants as inside
 use Rattle.read_basic.specs.declared.Tail.{Tail}
@@ -33,7 +33,7 @@ use Rattle.read_response.specs.Placed.{frontAt, afterSigned, tailed}
 use Rattle.read_response.specs.declared.basics.Front.{Front}
 use Rattle.read_response.specs.declared.basics.Body.{Body}
 use Rattle.read_response.specs.declared.basics.Body.the-variants as body
-use Rattle.read_response.proofs.Sizes.{insideEnd, tailEnd, inside-ends, tail-ends, Rest, made, parts-same}
+use Rattle.read_response.proofs.Sizes.{fieldsSize, signed-length, insideEnd, tailEnd, inside-ends, tail-ends, Rest, made, parts-same}
 
 -- ── what follows the signed part ──
 module _ (s : List ℕ) (x : Front) (pre : (x .signed .len ≤ length s) × (x .signed .start + length s ≤ 16384)) (z : Tail)
@@ -96,7 +96,7 @@ module _ (s : List ℕ) (at : ℕ) (fits : at + length s ≤ 16384) (x : Spot) (
       inside-place p g = let v = rw g at inside-in in record { fits = omega (arith, head-end) }
 
       pub inside-wrong : (p : ℕ) → y ≡ inside.Broken p → body.Broken (at + b + p) ≡ contentOf at (basicBody .dec s)
-      unfolding contentOf basicBody responseData mappedDec fieldDec insideSigned
+      unfolding contentOf basicBody responseData mappedDec fieldDec insideSigned insideAt
       inside-wrong p g = go (signedBody .dec (take l (drop b s))) refl (inside-is ∙ g)
         where
           go : (o : Read Signed) → signedBody .dec (take l (drop b s)) ≡ o → insideSigned o ≡ inside.Broken p
@@ -106,11 +106,14 @@ module _ (s : List ℕ) (at : ℕ) (fits : at + length s ≤ 16384) (x : Spot) (
               let k : at + b + p ≡ at + (b + j) = let h : j ≡ p = cc in omega arith in
               rw (tagged-as (signedBody .dec) (broke j) i, k)
 
-      module _ (r f m k : ℕ) (g : y ≡ inside.Holds r f m k) where
-        pub front-fits : b + f + m ≤ b + l
-        front-fits = let v = rw g at inside-in in omega arith
+      module _ (v r f m k : ℕ) (g : y ≡ inside.Holds v r f m k) where
+        pub front-fits : b + v + f + m ≤ b + l
+        front-fits = let h = rw g at inside-in in omega arith
 
-        module _ (z : Front) (w : z ≡ frontAt at b (b + l) r f m k) where
+        pub first-sum : Fits w64 (b + v)
+        first-sum = record { fits = omega (arith, front-fits, head-end) }
+
+        module _ (z : Front) (w : z ≡ frontAt at (b + v) (b + l) r f m k) where
           pub after-end : z .signed .len ≤ length s
           after-end = rw w head-end
 
@@ -119,24 +122,27 @@ module _ (s : List ℕ) (at : ℕ) (fits : at + length s ≤ 16384) (x : Spot) (
 
           -- by what the content and the rest are read as
           both : (d : Signed) → signedBody .dec (take l (drop b s)) ≡ read d → (o : Read Rest) → algorithmOn .dec (drop (b + l) s) ≡ o
-              → tailed (frontAt at b (b + l) r f m k) (length s) (tailOf o) ≡ contentOf at (basicBody .dec s)
-          unfolding contentOf basicBody responseData mappedDec fieldDec algorithmOn signatureOn certificatesOn tailed tailOf insideSigned
-          both d i (broke p) v =
+              → tailed (frontAt at (b + v) (b + l) r f m k) (length s) (tailOf o) ≡ contentOf at (basicBody .dec s)
+          unfolding contentOf basicBody responseData mappedDec fieldDec algorithmOn signatureOn certificatesOn tailed tailOf insideSigned insideAt
+          both d i (broke p) h =
               let j : at + (b + l) + p ≡ at + (b + l + p) = omega arith in
-              rw (tagged-as (signedBody .dec) (read d) i, v, j)
-          both d i (read u) v =
+              rw (tagged-as (signedBody .dec) (read d) i, h, j)
+          both d i (read u) h =
               let signed = tagged-as (signedBody .dec) (read d) i in
-              let all : basicBody .dec s ≡ read (made d u) = rw (signed, v) in
+              let all : basicBody .dec s ≡ read (made d u) = rw (signed, h) in
               let whole = got-size responseData s d (b + l) (known-octets s known) signed in
-              let held = whole-size signedBody (take l (drop b s)) d (held-octets known) i ∙ part-length b l s head-end in
-              parts-same d u at b l (length s) r f m k (ap insideSigned (sym i) ∙ inside-is ∙ g) whole held
+              let size = whole-size signedBody (take l (drop b s)) d (held-octets known) i ∙ part-length b l s head-end in
+              let same : insideSigned (read d) ≡ inside.Holds v r f m k = ap insideSigned (sym i) ∙ inside-is ∙ g in
+              let skipped : v ≡ versionSize d = cc in
+              let held : b + v + fieldsSize d ≡ b + l = omega (arith, signed-length d) in
+              parts-same d u at (b + v) (b + l) (length s) v r f m k same whole held
               (whole-size basicBody s (made d u) (known-octets s known) all) ∙ sym (ap (contentOf at) all)
 
-          pub body-found : (v : Body) → v ≡ tailed z (length s) (tailOf (algorithmOn .dec (drop (z .signed .len) s))) → v ≡ contentOf at (basicBody .dec s)
+          pub body-found : (x : Body) → x ≡ tailed z (length s) (tailOf (algorithmOn .dec (drop (z .signed .len) s))) → x ≡ contentOf at (basicBody .dec s)
           unfolding insideSigned
-          body-found v i = i ∙ rw w (go (signedBody .dec (take l (drop b s))) refl (inside-is ∙ g))
+          body-found x i = i ∙ rw w (go (signedBody .dec (take l (drop b s))) refl (inside-is ∙ g))
             where
-              go : (o : Read Signed) → signedBody .dec (take l (drop b s)) ≡ o → insideSigned o ≡ inside.Holds r f m k
-                  → tailed (frontAt at b (b + l) r f m k) (length s) (tailOf (algorithmOn .dec (drop (b + l) s))) ≡ contentOf at (basicBody .dec s)
-              go (broke j) i v = never (cc)
-              go (read d) i v = both d i (algorithmOn .dec (drop (b + l) s)) refl
+              go : (o : Read Signed) → signedBody .dec (take l (drop b s)) ≡ o → insideSigned o ≡ inside.Holds v r f m k
+                  → tailed (frontAt at (b + v) (b + l) r f m k) (length s) (tailOf (algorithmOn .dec (drop (b + l) s))) ≡ contentOf at (basicBody .dec s)
+              go (broke j) i h = never (cc)
+              go (read d) i h = both d i (algorithmOn .dec (drop (b + l) s)) refl

@@ -15,11 +15,12 @@ use Rattle.codec.specs.Option.{optionEnc}
 use Rattle.codec.specs.Many.{forms}
 use Rattle.codec.specs.Tree.{Tree}
 use Rattle.layout.specs.Reading.{Algorithm, Entry, Signed, Basic}
-use Rattle.layout.specs.Format.{singleResponse, responses, extensions, signedBody, algorithmIdentifier, signatureBits, certificates, basicBody}
+use Rattle.layout.specs.Names.{fieldsOf}
+use Rattle.layout.specs.Format.{singleResponse, responses, extensions, signedFields, signedBody, algorithmIdentifier, signatureBits, certificates, basicBody}
 use Rattle.read_response.specs.Parts.{span, partsFrom, responsesSize, entriesSize, signedSize, algorithmSize}
 use Rattle.read_response.specs.Placed.{frontAt, tailed}
 use Rattle.read_response.specs.declared.basics.Body.the-variants as body
-use Rattle.read_basic.specs.Views.{responderSize, producedSize, insideSigned, signatureOn, algorithmOn, tailOf, entriesPlace, entriesLength}
+use Rattle.read_basic.specs.Views.{versionSize, responderSize, producedSize, insideAt, insideSigned, signatureOn, algorithmOn, tailOf, entriesPlace, entriesLength}
 use Rattle.read_basic.specs.MoreLaws.{place-inside}
 use Rattle.read_basic.specs.declared.Inside.{Inside}
 use Rattle.read_basic.specs.declared.Inside.the-variants as inside
@@ -35,9 +36,16 @@ signature-short : (g : List ℕ) → length g ≤ length (signatureBits .enc g)
 unfolding signatureBits
 signature-short g = omega (arith, form-length 0x03 (0 ∷ g))
 
-signed-length : (d : Signed) → length (signedBody .enc d) ≡ responderSize d + (producedSize d + (responsesSize d + length (optionEnc (extensions .enc) (d .extensions))))
+abbrev pub fieldsSize : Signed → ℕ
+fieldsSize d = length (signedFields .enc (fieldsOf d))
+
+fields-length : (d : Signed) → fieldsSize d ≡ responderSize d + (producedSize d + (responsesSize d + length (optionEnc (extensions .enc) (d .extensions))))
+unfolding signedFields
+fields-length d = simp length-append (omega arith)
+
+pub signed-length : (d : Signed) → length (signedBody .enc d) ≡ versionSize d + fieldsSize d
 unfolding signedBody
-signed-length d = simp length-append (omega arith)
+signed-length d = simp length-append
 
 basic-length : (b : Basic) → length (basicBody .enc b)
     ≡ signedSize b + (algorithmSize b + (length (signatureBits .enc (b .signature)) + length (optionEnc (certificates .enc) (b .certificates))))
@@ -46,7 +54,7 @@ basic-length b = simp length-append (omega arith)
 
 -- ── the entries end inside the signed part's content, and the signature inside what follows it ──
 abbrev pub insideEnd : Inside → ℕ
-insideEnd (inside.Holds r f m k) = f + m
+insideEnd (inside.Holds v r f m k) = v + f + m
 insideEnd (inside.Broken p) = p
 
 abbrev pub tailEnd : Tail → ℕ
@@ -54,8 +62,10 @@ tailEnd (tail.Holds a g h) = g + h
 tailEnd (tail.Broken p) = p
 
 pub inside-ends : (s : List ℕ) → Octets s → insideEnd (insideSigned (signedBody .dec s)) ≤ length s
-unfolding insideSigned
-inside-ends = place-inside signedBody insideSigned insideEnd (λ d. omega (arith, entries-short (d .entries), signed-length d)) (λ p. omega arith)
+unfolding insideSigned insideAt
+inside-ends =
+    place-inside signedBody insideSigned insideEnd (λ d. omega (arith, entries-short (d .entries), fields-length d, signed-length d))
+    (λ p. omega arith)
 
 pub tail-ends : (s : List ℕ) → Octets s → tailEnd (tailOf (algorithmOn .dec s)) ≤ length s
 unfolding tailOf algorithmOn signatureOn
@@ -73,28 +83,28 @@ made d x = record { signed = d; algorithm = x .0; signature = x .1 .0; certifica
 abbrev signaturePlace : Rest → ℕ
 signaturePlace x = length (algorithmIdentifier .enc (x .0)) + (length (signatureBits .enc (x .1 .0)) - length (x .1 .0))
 
-module _ (d : Signed) (x : Rest) (at b l n r f m k : ℕ) (i : insideSigned (read d) ≡ inside.Holds r f m k)
-    (whole : signedSize (made d x) ≡ b + l) (held : length (signedBody .enc d) ≡ l) (all : length (basicBody .enc (made d x)) ≡ n) where
-  pub parts-same : tailed (frontAt at b (b + l) r f m k) n (tailOf (read x)) ≡ body.Holds (partsFrom at (made d x))
-  unfolding partsFrom tailed tailOf insideSigned
+module _ (d : Signed) (x : Rest) (at b e n v r f m k : ℕ) (i : insideSigned (read d) ≡ inside.Holds v r f m k)
+    (whole : signedSize (made d x) ≡ e) (held : b + fieldsSize d ≡ e) (all : length (basicBody .enc (made d x)) ≡ n) where
+  pub parts-same : tailed (frontAt at b e r f m k) n (tailOf (read x)) ≡ body.Holds (partsFrom at (made d x))
+  unfolding partsFrom tailed tailOf insideSigned insideAt
   parts-same =
       let E = entries-short (d .entries) in
       let G = signature-short (x .1 .0) in
-      let D = signed-length d in
+      let D = fields-length d in
       let B = basic-length (made d x) in
       let i₁ : r ≡ responderSize d = cc in
       let i₂ : f ≡ responderSize d + (producedSize d + entriesPlace (d .entries)) = cc in
       let i₃ : m ≡ entriesSize d = cc in
       let i₄ : k ≡ length (d .entries) = cc in
-      let p₁ : b + l ≡ signedSize (made d x) = sym whole in
-      let p₂ : at + b ≡ at + (signedSize (made d x) - length (signedBody .enc d)) = omega arith in
-      let p₃ : at + b + f ≡ at + (signedSize (made d x) - length (signedBody .enc d)) + (responderSize d + producedSize d) + (responsesSize d - entriesSize d) = omega arith in
-      let p₄ : at + b + f + m ≡ at + (signedSize (made d x) - length (signedBody .enc d)) + (responderSize d + producedSize d) + responsesSize d = omega arith in
-      let p₅ : at + (b + l) - (at + b + f + m) ≡ length (optionEnc (extensions .enc) (d .extensions)) = omega arith in
-      let p₆ : at + (b + l) ≡ at + signedSize (made d x) = omega arith in
-      let p₇ : at + (b + l) + signaturePlace x ≡ at + (signedSize (made d x) + (algorithmSize (made d x) + length (signatureBits .enc (x .1 .0)))) - length (x .1 .0) = omega arith in
-      let p₈ : at + (b + l) + signaturePlace x + length (x .1 .0) ≡ at + (signedSize (made d x) + (algorithmSize (made d x) + length (signatureBits .enc (x .1 .0)))) = omega arith in
-      let p₉ : at + n - (at + (b + l) + signaturePlace x + length (x .1 .0)) ≡ length (optionEnc (certificates .enc) (x .1 .1)) = omega arith in
+      let p₁ : e ≡ signedSize (made d x) = sym whole in
+      let p₂ : at + b ≡ at + (signedSize (made d x) - fieldsSize d) = omega arith in
+      let p₃ : at + b + f ≡ at + (signedSize (made d x) - fieldsSize d) + (responderSize d + producedSize d) + (responsesSize d - entriesSize d) = omega arith in
+      let p₄ : at + b + f + m ≡ at + (signedSize (made d x) - fieldsSize d) + (responderSize d + producedSize d) + responsesSize d = omega arith in
+      let p₅ : at + e - (at + b + f + m) ≡ length (optionEnc (extensions .enc) (d .extensions)) = omega arith in
+      let p₆ : at + e ≡ at + signedSize (made d x) = omega arith in
+      let p₇ : at + e + signaturePlace x ≡ at + (signedSize (made d x) + (algorithmSize (made d x) + length (signatureBits .enc (x .1 .0)))) - length (x .1 .0) = omega arith in
+      let p₈ : at + e + signaturePlace x + length (x .1 .0) ≡ at + (signedSize (made d x) + (algorithmSize (made d x) + length (signatureBits .enc (x .1 .0)))) = omega arith in
+      let p₉ : at + n - (at + e + signaturePlace x + length (x .1 .0)) ≡ length (optionEnc (certificates .enc) (x .1 .1)) = omega arith in
       λ j. body.Holds record {
         signed = span at (p₁ j);
         responder = span (p₂ j) (i₁ j);

@@ -1,7 +1,7 @@
 -- Where the parts of a basic response are: each stands after the forms of the parts before it. The
 -- basic response's own content is the last octets of the response.
 -- span; responsesSize, entriesSize, responsesAt, responderSpan, entriesSpan, extensionsSpan; signedSize,
--- signedContentAt, algorithmSize, signatureEnd, partsFrom, partsIn; judgedAs, judgedOf. That the octets there are
+-- fieldsAt, algorithmSize, signatureEnd, partsFrom, partsIn; judgedAs, judgedOf. That the octets there are
 -- the parts' forms is in PartsLaws.
 -- Assumes nothing.
 use Prim.Native.Nat.{ℕ, _+_, _-_}
@@ -12,7 +12,8 @@ use lib.ListN.{length}
 use Rattle.codec.specs.Option.{optionEnc}
 use Rattle.codec.specs.Many.{forms}
 use Rattle.layout.specs.Reading.{Signed, Basic, failed, basic}
-use Rattle.layout.specs.Format.{algorithmIdentifier, extensions, singleResponse, responses, signedBody, responseData, signatureBits, certificates, basicBody}
+use Rattle.layout.specs.Names.{fieldsOf}
+use Rattle.layout.specs.Format.{algorithmIdentifier, extensions, singleResponse, responses, signedFields, responseData, signatureBits, certificates, basicBody}
 use Rattle.layout.specs.Read.{Outcome, reads, otherType, unfit, reading}
 use Rattle.read_basic.specs.Views.{responderSize, producedSize}
 use Rattle.read_response.specs.declared.Span.{Span}
@@ -23,7 +24,7 @@ use Rattle.read_response.specs.declared.Judged.the-variants as judged
 abbrev pub span : ℕ → ℕ → Span
 span at n = record { start = at; len = n }
 
--- the parts of a signed part whose content starts at a place
+-- the parts of a signed part whose fields, without a version, start at a place
 abbrev pub responsesSize : Signed → ℕ
 responsesSize d = length (responses .enc (d .entries))
 
@@ -48,9 +49,9 @@ extensionsSpan at d = span (responsesAt at d + responsesSize d) (length (optionE
 abbrev pub signedSize : Basic → ℕ
 signedSize b = length (responseData .enc (b .signed))
 
--- the signed part's content is its last octets
-abbrev pub signedContentAt : ℕ → Basic → ℕ
-signedContentAt at b = at + (signedSize b - length (signedBody .enc (b .signed)))
+-- the fields, without a version, are the signed part's last octets
+abbrev pub fieldsAt : ℕ → Basic → ℕ
+fieldsAt at b = at + (signedSize b - length (signedFields .enc (fieldsOf (b .signed))))
 
 abbrev pub algorithmSize : Basic → ℕ
 algorithmSize b = length (algorithmIdentifier .enc (b .algorithm))
@@ -61,10 +62,10 @@ signatureEnd at b = at + (signedSize b + (algorithmSize b + length (signatureBit
 unfoldable pub partsFrom : ℕ → Basic → Parts
 partsFrom at b = record {
   signed = span at (signedSize b);
-  responder = responderSpan (signedContentAt at b) (b .signed);
-  entries = entriesSpan (signedContentAt at b) (b .signed);
+  responder = responderSpan (fieldsAt at b) (b .signed);
+  entries = entriesSpan (fieldsAt at b) (b .signed);
   count = length (b .signed .entries);
-  extensions = extensionsSpan (signedContentAt at b) (b .signed);
+  extensions = extensionsSpan (fieldsAt at b) (b .signed);
   algorithm = span (at + signedSize b) (algorithmSize b);
   signature = span (signatureEnd at b - length (b .signature)) (length (b .signature));
   certificates = span (signatureEnd at b) (length (optionEnc (certificates .enc) (b .certificates)));

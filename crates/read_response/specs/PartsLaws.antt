@@ -13,12 +13,13 @@ use Rattle.element.specs.Form.{headForm, formOf}
 use Rattle.codec.specs.Option.{optionEnc}
 use Rattle.codec.specs.Many.{forms}
 use Rattle.layout.specs.Reading.{Basic, basic}
+use Rattle.layout.specs.Names.{there}
 use Rattle.layout.specs.Kinds.{time}
-use Rattle.layout.specs.Format.{algorithmIdentifier, extensions, singleResponse, responderId, responses, signedBody, responseData, signatureBits, certificates, basicBody, basicResponse}
+use Rattle.layout.specs.Format.{algorithmIdentifier, extensions, singleResponse, responderId, version, responses, signedFields, signedBody, responseData, signatureBits, certificates, basicBody, basicResponse}
 use Rattle.layout.specs.InnerLaws.{string-last}
 use Rattle.layout.specs.Read.{basicType, der, reads, reading}
 use Rattle.layout.specs.Theorem.{sound}
-use Rattle.read_response.specs.Parts.{partsFrom, signedContentAt}
+use Rattle.read_response.specs.Parts.{partsFrom, fieldsAt}
 use Rattle.read_response.specs.Stands.{Stands, Fields, first-stands, held-stands, last-stands, Pieces, one-stands, two-stands, bits-stand, end-stands, content-fields}
 
 module _ (s : List ℕ) (b : Basic) (o : Octets s) (r : reading s ≡ reads (basic b)) where
@@ -67,17 +68,20 @@ module _ (s : List ℕ) (b : Basic) (o : Octets s) (r : reading s ≡ reads (bas
   unfolding partsFrom responseData signatureBits formOf
   certificates-stand = end-stands pieces
 
-  -- the signed part's content is cut into its fields
+  -- the signed part's content is cut into its version or nothing, and its fields
+  abbrev versionForm : List ℕ
+  versionForm = optionEnc (version .enc) (there (b .signed .versioned))
+
   abbrev entriesForm : List ℕ
   entriesForm = forms (singleResponse .enc) (b .signed .entries)
 
   abbrev extensionsForm : List ℕ
   extensionsForm = optionEnc (extensions .enc) (b .signed .extensions)
 
-  fields : Fields s (signedContentAt bodyAt b) (responderId .enc (b .signed .responder)) (time .enc (b .signed .producedAt)) (headForm 0x30 (length entriesForm)) entriesForm extensionsForm
-  unfolding signedBody responses responseData formOf
+  fields : Fields s (fieldsAt bodyAt b) (responderId .enc (b .signed .responder)) (time .enc (b .signed .producedAt)) (headForm 0x30 (length entriesForm)) entriesForm extensionsForm
+  unfolding signedBody signedFields responses responseData formOf
   fields =
-      content-fields pieces (responderId .enc (b .signed .responder)) (time .enc (b .signed .producedAt)) (headForm 0x30 (length entriesForm))
+      content-fields pieces versionForm (responderId .enc (b .signed .responder)) (time .enc (b .signed .producedAt)) (headForm 0x30 (length entriesForm))
       entriesForm extensionsForm refl
 
   -- the responder id, header included

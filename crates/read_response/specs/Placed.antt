@@ -11,7 +11,7 @@ use Rattle.read_response.specs.declared.basics.Front.{Front}
 use Rattle.read_response.specs.declared.basics.Body.{Body}
 use Rattle.read_response.specs.declared.basics.Body.the-variants as body
 
--- a signed part at a place, with its content from b to e: the responder id takes r, and the k entries are at f and take m
+-- a signed part at a place, whose responder id is at b and takes r, and which ends at e: the k entries are at f after b and take m
 abbrev pub frontAt : (at b e r f m k : ℕ) → Front
 frontAt at b e r f m k = record {
   signed = span at e;

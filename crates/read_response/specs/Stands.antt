@@ -73,11 +73,12 @@ module _ {s : List ℕ} {n : ℕ} {h d a k g c : List ℕ} (p : Pieces s n h d a
       part-stands s (p .before ++ ((h ++ d) ++ (a ++ (k ++ (0 ∷ g))))) c [] _ (length c)
       (p .same ∙ simp append-assoc) (simp length-append (omega (arith, p .long))) refl
 
-  -- what the first header holds, cut into its fields
-  pub content-fields : (r t j e x : List ℕ) → d ≡ r ++ (t ++ ((j ++ e) ++ (x ++ []))) → Fields s (n + (length (h ++ d) - length d)) r t j e x
-  content-fields r t j e x f = record {
-    before = p .before ++ h;
+  -- what the first header holds, after some octets v, cut into its fields
+  pub content-fields : (v r t j e x : List ℕ) → d ≡ v ++ (r ++ (t ++ ((j ++ e) ++ (x ++ []))))
+      → Fields s (n + (length (h ++ d) - length (r ++ (t ++ ((j ++ e) ++ (x ++ [])))))) r t j e x
+  content-fields v r t j e x f = record {
+    before = p .before ++ (h ++ v);
     after = a ++ ((k ++ (0 ∷ g)) ++ (c ++ []));
-    long = simp length-append (omega (arith, p .long));
-    same = p .same ∙ rw (← f) (simp append-assoc);
+    long = rw f (simp length-append (omega (arith, p .long)));
+    same = p .same ∙ rw f (simp append-assoc);
   }

@@ -32,8 +32,8 @@ pub struct Front {
     pub extensions: Span,
 }
 
-// The parts of a signed part that starts at this place of the response: its content starts at start and
-// ends at end, and the places in the content are those that were read.
+// The parts of a signed part that starts at this place of the response: its responder id starts at start,
+// its content ends at end, and the places after the responder id's start are those that were read.
 fn place_front(
     at: usize,
     start: usize,
@@ -150,12 +150,14 @@ fn basic_body(s: &[u8], at: usize) -> Body
                     Body::Broken(place)
                 }
                 Inside::Holds {
+                    from: skipped,
                     responder,
                     start: from,
                     len: size,
                     count,
                 } => {
-                    let front = place_front(at, start, end, responder, from, size, count);
+                    let first = start + skipped;
+                    let front = place_front(at, first, end, responder, from, size, count);
                     after_signed(s, front)
                 }
             }

@@ -3,6 +3,7 @@
 -- Assumes nothing.
 use Prim.Native.Nat.{ℕ}
 use mathlib.Core.Path.{_≡_, refl}
+use mathlib.Core.Bool.{false}
 use mathlib.Core.List.{List, [], _∷_, _++_}
 use mathlib.Core.Option.{none, some}
 use lib.ListN.{replicate}
@@ -74,6 +75,7 @@ response =
 abbrev pub answered : Basic
 answered = record {
   signed = record {
+    versioned = false;
     responder = byKey (replicate 20 0x33);
     producedAt = 1114909200;
     entries =

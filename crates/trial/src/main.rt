@@ -48,6 +48,10 @@ fn say_case(operation: u8, body: &[u8]) {
         runs::say_run(body);
         return;
     }
+    if operation == 9 {
+        parts::say_responder(body);
+        return;
+    }
     say::say(b"-\n");
 }
 

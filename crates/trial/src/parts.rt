@@ -34,6 +34,20 @@ pub(crate) fn say_signature(s: &[u8]) {
     }
 }
 
+// The responder id: where it starts and its size. Where a response does not fit, the place that is wrong
+// stands behind the 3.
+pub(crate) fn say_responder(s: &[u8]) {
+    let judged = read_response::judge(s);
+    match judged {
+        Judged::Basic(parts) => {
+            let span = parts.responder;
+            say::say_part(span.start, span.len);
+        }
+        Judged::Unfit(place) => say::say_misfit(place),
+        Judged::TooLong | Judged::Failed(_) | Judged::OtherType => say_why(s),
+    }
+}
+
 // A walk over the entries of a response, from its start: so many steps, and then the step that is told.
 // There are at most 64 entries, and the end stays, so after 64 steps every step is the same.
 fn step_after(response: &[u8], count: usize) -> Stepped {

@@ -33,6 +33,13 @@ pub(crate) fn say_refusal(number: u8, status: u8) {
     say(b"\n");
 }
 
+// A misfit: 3, and its place.
+pub(crate) fn say_misfit(place: usize) {
+    say(b"3 ");
+    say_number(place as u64);
+    say(b"\n");
+}
+
 // A part: 0, where it starts, and how many octets it has.
 pub(crate) fn say_part(start: usize, len: usize) {
     say(b"0 ");

@@ -1,7 +1,8 @@
 //! The desk program as a function: input octets to the line it writes.
 
-use crate::check::{check, judge, Answer};
+use crate::check::{judge, Answer};
 use crate::hex;
+use crate::layout::Refusal;
 use crate::question::{Card, Question, CARD};
 use crate::slip;
 
@@ -74,9 +75,14 @@ pub fn response_in(input: &[u8]) -> &[u8] {
 
 /// What the program answers.
 pub fn answer(input: &[u8]) -> Answer {
+    judged(input).unwrap_or_else(Answer::from)
+}
+
+/// What the program answers, with the place and the words of a refusal kept.
+pub fn judged(input: &[u8]) -> Result<Answer, Refusal> {
     match take_apart(input) {
-        Some((question, response)) => check(&question, response),
-        None => Answer::Refused { number: 1, status: 0 },
+        Some((question, response)) => judge(&question, response),
+        None => Err(Refusal::plain(1)),
     }
 }
 
@@ -90,6 +96,5 @@ pub fn line(input: &[u8]) -> String {
 /// The place of a misfit, counted from the response's start, where the answer
 /// is refusal 3.
 pub fn place(input: &[u8]) -> Option<usize> {
-    let (question, response) = take_apart(input)?;
-    judge(&question, response).err()?.place
+    judged(input).err()?.place
 }

@@ -8,8 +8,8 @@ use crate::reading::Basic;
 use crate::words::*;
 use crate::LONGEST_RESPONSE;
 
-/// Octets that do not fit the layout: the place, and the words of 01 that
-/// they break.
+/// Octets that do not fit the layout: the place, and the words of 01 or 02
+/// that they break.
 #[derive(Debug, Clone, Copy, PartialEq, Eq)]
 pub struct Misfit {
     pub place: usize,

@@ -31,6 +31,7 @@ pub fn basic(octets: &[u8], base: usize) -> Result<Basic, Misfit> {
 
     Ok(Basic {
         reading: Reading {
+            version_written: signed.version_written,
             responder: signed.responder,
             produced_at: signed.produced_at,
             entries: signed.entries,
@@ -40,6 +41,7 @@ pub fn basic(octets: &[u8], base: usize) -> Result<Basic, Misfit> {
             certificates,
         },
         signed_part: span(signed_element),
+        responder: signed.responder_span,
         algorithm: span(algorithm_element),
         signature: Span { from: bits.start + 1, len: bits.end - bits.start - 1 },
         certificates: place,
@@ -53,7 +55,9 @@ fn span(element: &Element) -> Span {
 }
 
 struct SignedPart {
+    version_written: bool,
     responder: Responder,
+    responder_span: Span,
     produced_at: u64,
     entries: Vec<Entry>,
     spans: Vec<Span>,
@@ -62,7 +66,13 @@ struct SignedPart {
 
 fn signed_part(element: &Element) -> Result<SignedPart, Misfit> {
     let mut holder = Holder::of(element);
-    let responder = responder(holder.any(RESPONDER)?)?;
+    let version_written = match holder.maybe(0xA0, VERSION)? {
+        Some(outer) => version(outer).map(|()| true)?,
+        None => false,
+    };
+    let responder_element = holder.any(RESPONDER)?;
+    let responder = responder(responder_element)?;
+    let responder_span = span(responder_element);
     let produced_at = time_of(holder.need(0x18, SIGNED)?)?;
     let list = holder.need(0x30, SIGNED)?;
     let mut entries = Vec::new();
@@ -75,7 +85,24 @@ fn signed_part(element: &Element) -> Result<SignedPart, Misfit> {
     })?;
     let extensions = maybe_extensions(&mut holder)?;
     holder.filled(FILLED)?;
-    Ok(SignedPart { responder, produced_at, entries, spans, extensions })
+    Ok(SignedPart {
+        version_written,
+        responder,
+        responder_span,
+        produced_at,
+        entries,
+        spans,
+        extensions,
+    })
+}
+
+/// A written version.  "A written version is exactly A0 03 02 01 00, before the
+/// responder id."  "Any other version gives 3, placed at the INTEGER's tag."
+fn version(outer: &Element) -> Result<(), Misfit> {
+    let mut holder = Holder::of(outer);
+    let number = holder.need(0x02, VERSION)?;
+    rule(contents(number) == [0], number, VERSION)?;
+    holder.filled(FILLED)
 }
 
 /// Goes through a list.  "An item beyond a limit of number ... is placed at
@@ -113,7 +140,6 @@ fn responder(element: &Element) -> Result<Responder, Misfit> {
             holder.filled(FILLED)?;
             Ok(Responder::ByKey(contents(key).to_vec()))
         }
-        0xA0 => Err(Misfit { place: element.place, why: VERSION }),
         _ => Err(Misfit { place: element.place, why: RESPONDER }),
     }
 }

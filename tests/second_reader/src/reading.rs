@@ -2,7 +2,8 @@
 //!
 //! 01: "every field above, serials as whole numbers, times as seconds, reason
 //! as a number, free elements as trees, OIDs and strings as octets, each
-//! optional part as absent or present."
+//! optional part as absent or present."  02, C-12: "The reading gains 'version
+//! written or not'".
 
 use crate::serial::Serial;
 
@@ -75,6 +76,8 @@ pub struct Entry {
 
 #[derive(Debug, Clone, PartialEq, Eq)]
 pub struct Reading {
+    /// A bool with no limit of its own: a version that is written is 0.
+    pub version_written: bool,
     pub responder: Responder,
     pub produced_at: u64,
     pub entries: Vec<Entry>,
@@ -97,6 +100,7 @@ pub struct Span {
 pub struct Basic {
     pub reading: Reading,
     pub signed_part: Span,
+    pub responder: Span,
     pub algorithm: Span,
     pub signature: Span,
     /// Without the A0 and the sequence around them; none at all is 0 and 0.

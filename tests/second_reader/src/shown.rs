@@ -1,6 +1,6 @@
-//! What is shown of a response: the signed part, the signature with its
-//! algorithm, the certificates, and the walk over the entries.  None of them
-//! asks a question; they refuse with 2 to 5.
+//! What is shown of a response: the signed part, the responder id, the signature
+//! with its algorithm, the certificates, and the walk over the entries.  None of
+//! them asks a question; they refuse with 2 to 5.
 
 use crate::layout::{self, Refusal};
 use crate::reading::Span;
@@ -8,6 +8,12 @@ use crate::reading::Span;
 /// 01: "The signed part is shown as the caller's own octets, header included".
 pub fn signed_part(response: &[u8]) -> Result<Span, Refusal> {
     Ok(layout::read(response)?.signed_part)
+}
+
+/// The responder id's element, header included; a written version stands before
+/// it.
+pub fn responder_id(response: &[u8]) -> Result<Span, Refusal> {
+    Ok(layout::read(response)?.responder)
 }
 
 /// 01: "the signature likewise, without the 00".

@@ -1,4 +1,4 @@
-//! The words of document 01 that a refusal quotes.  Nothing here decides.
+//! The words of documents 01 and 02 that a refusal quotes.  Nothing here decides.
 
 /// "Numbers a refusal carries", the second column, from 1 on.
 pub const NUMBERS: [&str; 18] = [
@@ -41,7 +41,8 @@ free element with tag 30.";
 pub const SIGNED: &str =
     "Signed part, a 30: responder id, producedAt, 30 of 0 to 64 entries, maybe A1 \
 extensions.";
-pub const VERSION: &str = "The version has a default and so is not written.";
+// Document 02, C-12.
+pub const VERSION: &str = "Accept a written version 0; any other version still gives 3.";
 pub const RESPONDER: &str =
     "Responder id: A1 with a Name (free element, tag 30), or A2 with an OCTET \
 STRING of 20.";

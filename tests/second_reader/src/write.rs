@@ -1,6 +1,7 @@
 //! The DER form of a reading.  01: "Its DER form is its fields in the layout's
 //! order under the tags and lengths above; inside a tree nothing is sorted or
-//! examined."
+//! examined."  A version that is written is written here too.  02, C-12: "its
+//! DER form now being DER but for this one field".
 
 use crate::oid;
 use crate::piece::Piece;
@@ -39,17 +40,27 @@ pub fn basic(reading: &Reading) -> Piece {
 }
 
 pub fn signed_part(reading: &Reading) -> Piece {
-    let responder = match &reading.responder {
-        Responder::ByName(name) => Piece::holds(0xA1, vec![tree(name)]),
-        Responder::ByKey(key) => Piece::holds(0xA2, vec![Piece::plain(0x04, key)]),
-    };
-    let mut pieces = vec![
-        responder,
+    let mut pieces = Vec::new();
+    pieces.extend(reading.version_written.then(version));
+    pieces.extend([
+        responder(&reading.responder),
         time_piece(reading.produced_at),
         Piece::holds(0x30, reading.entries.iter().map(entry).collect()),
-    ];
+    ]);
     pieces.extend(reading.extensions.as_deref().map(extensions));
     Piece::holds(0x30, pieces)
+}
+
+/// A0 03 02 01 00.
+pub fn version() -> Piece {
+    Piece::holds(0xA0, vec![Piece::plain(0x02, &[0])])
+}
+
+pub fn responder(responder: &Responder) -> Piece {
+    match responder {
+        Responder::ByName(name) => Piece::holds(0xA1, vec![tree(name)]),
+        Responder::ByKey(key) => Piece::holds(0xA2, vec![Piece::plain(0x04, key)]),
+    }
 }
 
 pub fn entry(entry: &Entry) -> Piece {

@@ -149,6 +149,8 @@ fn filled_exactly() {
     assert!(!fits(&envelope("2b0601050507300101", &more(&parts().basic()))));
     assert!(!fits(&with(|p| p.certificates = junk.clone())));
     assert!(!fits(&with(|p| p.extensions = junk.clone())));
+    assert!(fits(&with(|p| p.before = tlv(0xA0, &h("02 01 00")))));
+    assert!(!fits(&with(|p| p.before = tlv(0xA0, &more(&h("02 01 00"))))));
     assert!(!fits(&with(|p| p.responder = tlv(0xA2, &more(&tlv(0x04, &[0x33; 20]))))));
     assert!(!fits(&with(|p| p.responder = tlv(0xA1, &more(&h("30 00"))))));
     let item = extension("2a03", "", &[]);

@@ -8,7 +8,9 @@ use second_reader::cases::edges;
 use second_reader::cases::generate;
 use second_reader::cases::prng::Rng;
 use second_reader::cases::published::{mutated, read_folder, records};
-use second_reader::cases::record::{decode_answer, encode_answer, read_stream, Record};
+use second_reader::cases::record::{
+    decode_answer, encode_answer, read_stream, Record, RESPONDER_ID, SIGNATURE, SIGNED_PART,
+};
 use second_reader::cases::scene;
 use second_reader::check::{check, Answer};
 use second_reader::layout;
@@ -19,6 +21,7 @@ use second_reader::write;
 
 #[test]
 fn a_scene_is_accepted_and_reads_back() {
+    let mut written_versions = 0;
     for index in 0..3_000 {
         let scene = scene::accepted(&mut Rng::for_case(7, index));
         let response = write::response(&scene.reading).octets();
@@ -30,11 +33,15 @@ fn a_scene_is_accepted_and_reads_back() {
         // The parts shown are the parts written.
         let octets = |span: &Span| response[span.from..span.from + span.len].to_vec();
         assert_eq!(octets(&basic.signed_part), write::signed_part(&scene.reading).octets());
+        let responder = write::responder(&scene.reading.responder).octets();
+        assert_eq!(octets(&basic.responder), responder);
         assert_eq!(octets(&basic.signature), scene.reading.signature);
         let written: Vec<Vec<u8>> =
             scene.reading.entries.iter().map(|entry| write::entry(entry).octets()).collect();
         assert_eq!(basic.entries.iter().map(octets).collect::<Vec<_>>(), written);
+        written_versions += usize::from(basic.reading.version_written);
     }
+    assert!((600..900).contains(&written_versions), "{written_versions} of 3000");
 }
 
 /// A reading is within the limits exactly when its DER form reads as it.
@@ -61,19 +68,21 @@ fn what_reads_is_written_back() {
         read_folder(&folder()).unwrap().into_iter().map(|published| published.octets).collect();
     for index in 0..6_000 {
         let record = generate::case(9, index);
-        if record.operation == 2 || record.operation == 3 {
+        if [SIGNED_PART, SIGNATURE, RESPONDER_ID].contains(&record.operation) {
             responses.push(record.body);
         }
     }
-    let mut read = 0;
+    let (mut read, mut with_version) = (0, 0);
     for response in responses {
         if let Ok(basic) = layout::read_any_size(&response) {
             assert_eq!(write::response(&basic.reading).octets(), response);
             assert!(limits::within(&basic.reading));
             read += 1;
+            with_version += usize::from(basic.reading.version_written);
         }
     }
     assert!(read > 200);
+    assert!(with_version > 50);
 }
 
 fn folder() -> std::path::PathBuf {
@@ -110,9 +119,37 @@ fn every_outcome_comes_often() {
         "06 slip reader: refusal 17",
         "04 walk: end",
         "04 walk: entry",
+        "09 responder id: shown",
+        "09 responder id: refusal 3",
     ] {
         assert!(counts.of(outcome) >= 20, "{outcome}");
     }
+    for number in [2, 4, 5] {
+        assert!(counts.of(&format!("09 responder id: refusal {number}")) >= 2, "{number}");
+    }
+}
+
+/// What comes of a written version comes often, and under its right name: no
+/// other line of the version is there.
+#[test]
+fn every_outcome_of_a_version_comes_often() {
+    let mut counts = Counts::default();
+    for index in 0..3_000 {
+        counts.add(&generate::case(1, index));
+    }
+    let mut lines = vec![
+        ("version: written, accepted".to_string(), 100),
+        ("version: written, refusal 3 elsewhere".to_string(), 20),
+        ("version: another, refusal 3 at its INTEGER".to_string(), 10),
+        ("version: misformed, refusal 3".to_string(), 10),
+    ];
+    for number in [1, 2].into_iter().chain(6..=16) {
+        lines.push((format!("version: written, refusal {number:2}"), 5));
+    }
+    for (line, least) in &lines {
+        assert!(counts.of(line) >= *least, "{line}: {}", counts.of(line));
+    }
+    assert_eq!(counts.text().matches("version:").count(), lines.len());
 }
 
 #[test]

@@ -1,11 +1,14 @@
-//! M1 to M12 of document 01, A.1 of source document 000, and the desk's case.
+//! M1 to M12 of document 01, A.1 and A.2 of source document 000, and the desk's
+//! case.
 
 mod common;
 use common::*;
 use second_reader::check::{check, Answer};
 use second_reader::desk;
 use second_reader::element::{read_length, write_length};
+use second_reader::layout;
 use second_reader::question::Card;
+use second_reader::reading::Reading;
 use second_reader::request;
 use second_reader::serial::Serial;
 use second_reader::time;
@@ -123,7 +126,7 @@ const A_2_SIGNATURE: &str = "
     a8 84 aa 5e 46 5b e7 b8 1f c6 b1 35 ad ff d1 cc ba 58 7d e8 29 60 79 f7 41 02 ea e0 82 0e a6 30";
 
 #[test]
-fn a_2_writes_the_version_and_gives_3() {
+fn a_2_is_read_with_its_version_and_without() {
     let question = ask(|question| {
         question.card = a_1_card();
         question.now = 1_131_407_564;
@@ -134,10 +137,19 @@ fn a_2_writes_the_version_and_gives_3() {
         this_update: 1_131_407_564,
         next_update: 1_131_407_564 + 7 * 86_400,
     };
-    assert_eq!(check(&question, &a_2("")), answer);
-    // "Source document 000's sample A.2 writes it; X.690, 11.5, decides, and
-    // that sample gives 3."
-    assert_eq!(check(&question, &a_2("a0 03 02 01 00")), refused(3));
+    // 02, C-12: "Their responder writes A0 03 02 01 00, as source document 000's
+    // own sample does", and "01's line on sample A.2 is amended."
+    let (written, plain) = (a_2("a0 03 02 01 00"), a_2(""));
+    assert_eq!(check(&question, &written), answer);
+    assert_eq!(check(&question, &plain), answer);
+    let reading = |response: &[u8]| layout::read(response).expect("it fits").reading;
+    assert!(reading(&written).version_written);
+    assert_ne!(reading(&written), reading(&plain));
+    assert_eq!(Reading { version_written: false, ..reading(&written) }, reading(&plain));
+    // Version 1 is refused at its INTEGER.
+    let other = a_2("a0 03 02 01 01");
+    assert_eq!(check(&question, &other), refused(3));
+    assert_eq!(place_of(&other), Some(find(&other, &h("a0 03 02 01 01")) + 2));
 }
 
 #[test]

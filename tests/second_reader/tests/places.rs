@@ -1,4 +1,5 @@
-//! The place of a misfit, line by line of settled.md ("Places").
+//! The place of a misfit, line by line of settled.md ("Places").  (The places of
+//! a version: version.rs.)
 
 mod common;
 use common::*;
@@ -211,7 +212,7 @@ fn contents_are_placed_at_the_tag() {
     assert_eq!(bits("0301 00"), 0);
     let responder = |octets: &str| in_part(&h(octets), |parts, octets| parts.responder = octets);
     assert_eq!(responder("a202 0400"), 2);
-    assert_eq!(responder("a003 020100"), 0);
+    assert_eq!(responder("a303 020100"), 0);
     assert_eq!(responder("a102 3100"), 2);
     assert_eq!(responder("a100"), 2);
 }

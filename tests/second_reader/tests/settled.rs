@@ -8,7 +8,9 @@ use second_reader::desk;
 use second_reader::layout;
 use second_reader::question::Card;
 use second_reader::reading::Span;
-use second_reader::shown::{algorithm, certificates, signature, signed_part, Step, Walk};
+use second_reader::shown::{
+    algorithm, certificates, responder_id, signature, signed_part, Step, Walk,
+};
 use second_reader::slip::write_slip;
 
 #[test]
@@ -120,6 +122,8 @@ fn parts_shown() {
     let signed = parts().signed();
     let at = find(&response, &signed);
     assert_eq!(signed_part(&response), Ok(Span { from: at, len: signed.len() }));
+    let responder = find(&response, &parts().responder);
+    assert_eq!(responder_id(&response), Ok(Span { from: responder, len: 24 }));
     let bits = find(&response, &h("03 03 00 aa bb"));
     assert_eq!(signature(&response), Ok(Span { from: bits + 3, len: 2 }));
     assert_eq!(algorithm(&response), Ok(Span { from: bits - 15, len: 15 }));
@@ -136,7 +140,7 @@ fn parts_shown() {
         (envelope("2a03", &[]), 5, 0),
         (envelope("2b0601050507300101", &[]), 3, 0),
     ] {
-        for show in [signed_part, algorithm, signature, certificates] {
+        for show in [signed_part, responder_id, algorithm, signature, certificates] {
             let refusal = show(&octets).unwrap_err();
             assert_eq!((refusal.number, refusal.status), (number, status));
         }

@@ -4,6 +4,7 @@ use std::collections::BTreeMap;
 
 use super::record::*;
 use super::run;
+use super::version;
 use crate::check::Answer;
 use crate::desk;
 use crate::hex;
@@ -11,7 +12,7 @@ use crate::layout::Refusal;
 use crate::question::{Card, CARD};
 use crate::reading::Span;
 use crate::request::write_request;
-use crate::shown::{algorithm, certificates, signature, signed_part, Step, Walk};
+use crate::shown::{algorithm, certificates, responder_id, signature, signed_part, Step, Walk};
 use crate::slip::{read_slip, write_slip};
 
 /// The answer's line, without its line feed.
@@ -44,6 +45,7 @@ pub fn line(record: &Record) -> Result<String, String> {
             None => "r17".to_string(),
         },
         (RUN, _) => run::line(body),
+        (RESPONDER_ID, _) => placed_line(responder_id(body)),
         (operation, length) => {
             return Err(format!("no record has operation {operation} and {length} octets"));
         }
@@ -55,6 +57,14 @@ fn span_line(shown: Result<Span, Refusal>) -> String {
     match shown {
         Ok(Span { from, len }) => format!("0 {from} {len}"),
         Err(refusal) => format!("{} {}", refusal.number, refusal.status),
+    }
+}
+
+/// The same, but that refusal 3 goes with the place of the misfit.
+fn placed_line(shown: Result<Span, Refusal>) -> String {
+    match shown {
+        Err(Refusal { place: Some(place), .. }) => format!("3 {place}"),
+        _ => span_line(shown),
     }
 }
 
@@ -112,6 +122,8 @@ fn outcome(record: &Record) -> String {
         REQUEST => format!("05 request: {}", written_or(&line)),
         SLIP_READER => format!("06 slip reader: {}", written_or(&line)),
         SLIP_WRITER => format!("07 slip writer: {}", written_or(&line)),
+        RESPONDER_ID if first == "0" => "09 responder id: shown".to_string(),
+        RESPONDER_ID => format!("09 responder id: refusal {first}"),
         _ => "no record".to_string(),
     }
 }
@@ -120,6 +132,16 @@ fn written_or(line: &str) -> String {
     match line.strip_prefix('r') {
         Some(number) => format!("refusal {number}"),
         None => "octets".to_string(),
+    }
+}
+
+/// What came of the version, where a record asks about a response that has one.
+fn version_outcome(record: &Record) -> Option<String> {
+    let body = record.body.as_slice();
+    match record.operation {
+        DESK => version::outcome(desk::response_in(body), desk::judged(body).err()),
+        RESPONDER_ID => version::outcome(body, responder_id(body).err()),
+        _ => None,
     }
 }
 
@@ -133,7 +155,7 @@ impl Counts {
     pub fn add(&mut self, record: &Record) {
         let outcomes = match record.operation {
             RUN => run::outcomes(&record.body),
-            _ => vec![outcome(record)],
+            _ => [Some(outcome(record)), version_outcome(record)].into_iter().flatten().collect(),
         };
         for outcome in outcomes {
             *self.counts.entry(outcome).or_default() += 1;

@@ -5,22 +5,23 @@ use super::odd;
 use super::paths;
 use super::prng::Rng;
 use crate::piece::{Length, Piece};
+use crate::write;
 
 /// Damages one piece.
 pub fn pieces(rng: &mut Rng, root: &mut Piece) {
-    match rng.below(20) {
+    match rng.below(22) {
         0 | 1 => length(rng, root),
         2 | 3 => tag(rng, root),
         4 | 5 => left_over(rng, root),
         6 => remove_or_repeat(rng, root),
         7 => swap(rng, root),
         8 => wrap(rng, root),
-        9 => version(rng, root),
-        10 => mark(rng, root),
-        11 => repeated_oid(rng, root),
-        12 => cut_off(rng, root),
-        13..=15 => time(rng, root),
-        16 => broken_optional(rng, root),
+        9..=11 => version(rng, root),
+        12 => mark(rng, root),
+        13 => repeated_oid(rng, root),
+        14 => cut_off(rng, root),
+        15..=17 => time(rng, root),
+        18 => broken_optional(rng, root),
         _ => contents(rng, root),
     }
 }
@@ -132,14 +133,30 @@ fn wrap(rng: &mut Rng, root: &mut Piece) {
     };
 }
 
-/// The default version, written (or another version).
-fn version(rng: &mut Rng, root: &mut Piece) {
-    let signed = [1, 0, 1, 0, 0];
-    let number = *rng.pick(&[0, 0, 0, 1]);
-    if paths::all(root).contains(&signed.to_vec()) {
-        if let Piece::Holds { pieces, .. } = paths::at_mut(root, &signed) {
-            let version = Piece::holds(0xA0, vec![Piece::plain(0x02, &[number])]);
-            pieces.insert(0, version);
+/// The way to the signed part.
+const SIGNED: [usize; 5] = [1, 0, 1, 0, 0];
+
+/// Another version, one in another form, twice the right one, or the right one
+/// in another place.
+pub fn version(rng: &mut Rng, root: &mut Piece) {
+    if !paths::all(root).contains(&SIGNED.to_vec()) {
+        return;
+    }
+    let Piece::Holds { pieces, .. } = paths::at_mut(root, &SIGNED) else {
+        return;
+    };
+    let right = write::version();
+    pieces.retain(|piece| *piece != right);
+    match rng.below(12) {
+        0..=3 => pieces.insert(0, odd::version(rng)),
+        4..=8 => pieces.insert(0, odd::version_form(rng)),
+        9 => {
+            pieces.splice(0..0, [right.clone(), right]);
+        }
+        // After the responder id, producedAt or the entries.
+        _ => {
+            let at = rng.between(1, 3).min(pieces.len());
+            pieces.insert(at, right);
         }
     }
 }
@@ -197,14 +214,20 @@ fn repeated_oid(rng: &mut Rng, root: &mut Piece) {
 /// An optional element of which only the tag octet is as it should be, in
 /// place of the one that is there and all that follows it.
 fn broken_optional(rng: &mut Rng, root: &mut Piece) {
-    let basic = vec![1, 0, 1, 0];
-    let signed = [&basic[..], &[0]].concat();
-    let list = [&signed[..], &[2]].concat();
     let known = paths::all(root);
+    let signed = SIGNED.to_vec();
+    if !known.contains(&signed) {
+        return;
+    }
+    // One piece more where the version is written.
+    let first = paths::children(paths::at(root, &signed)).first();
+    let version = usize::from(first == Some(&write::version()));
+    let list = [&signed[..], &[2 + version]].concat();
     if !known.contains(&list) {
         return;
     }
-    let mut places = vec![(basic, 3, 0xA0), (signed, 3, 0xA1)];
+    let basic = SIGNED[..4].to_vec();
+    let mut places = vec![(basic, 3, 0xA0), (signed.clone(), 0, 0xA0), (signed, 3 + version, 0xA1)];
     for index in 0..paths::children(paths::at(root, &list)).len() {
         let entry = [&list[..], &[index]].concat();
         places.push((entry.clone(), 3, 0xA0));

@@ -4,7 +4,7 @@ use super::damage;
 use super::edges;
 use super::faults;
 use super::prng::Rng;
-use super::record::{Record, DESK, SIGNATURE, SIGNED_PART};
+use super::record::{Record, DESK, RESPONDER_ID, SIGNATURE, SIGNED_PART};
 use super::scene::{self, Scene};
 use super::small;
 use crate::desk;
@@ -15,7 +15,8 @@ use crate::write;
 pub fn case(seed: u64, index: u64) -> Record {
     let rng = &mut Rng::for_case(seed, index);
     match rng.below(100) {
-        0..=74 => desk_case(rng),
+        0..=68 => desk_case(rng),
+        69..=74 => Record::new(RESPONDER_ID, whose_responder(rng)),
         75..=78 => Record::new(SIGNED_PART, response(rng)),
         79..=82 => Record::new(SIGNATURE, response(rng)),
         83..=88 => walk(rng),
@@ -44,6 +45,17 @@ fn desk_case(rng: &mut Rng) -> Record {
 
 fn response(rng: &mut Rng) -> Vec<u8> {
     asked(rng).response
+}
+
+/// A response whose responder id is asked for: half of the time with a damaged
+/// version, since the place is told there.
+fn whose_responder(rng: &mut Rng) -> Vec<u8> {
+    if rng.once_in(2) {
+        return response(rng);
+    }
+    let mut piece = write::response(&scene::accepted(rng).reading);
+    damage::version(rng, &mut piece);
+    piece.octets()
 }
 
 /// A step of the walk, at, before and past the end.

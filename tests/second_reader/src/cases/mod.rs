@@ -20,3 +20,4 @@ pub mod runs;
 pub mod scene;
 pub mod small;
 pub mod table;
+pub mod version;

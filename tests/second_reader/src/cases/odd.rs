@@ -1,6 +1,8 @@
-//! Contents that stand at a limit of 01, or break one of its rules.
+//! Contents that stand at a limit of 01, or break one of its rules, and versions
+//! that are not A0 03 02 01 00.
 
 use super::prng::Rng;
+use crate::piece::{Length, Piece};
 
 /// Contents for an element of this tag, most of them at or past a limit.
 pub fn contents(rng: &mut Rng, tag: u8) -> Vec<u8> {
@@ -79,6 +81,41 @@ const OIDS: [&[u8]; 9] = [
 const CODES: [&[u8]; 13] =
     [&[], &[0], &[1], &[3], &[4], &[6], &[7], &[8], &[10], &[11], &[0xFF], &[0, 1], &[0, 0]];
 const BITS: [&[u8]; 7] = [&[], &[0], &[0, 0], &[1, 0], &[7, 0x80], &[8, 1], &[0xFF, 0]];
+
+/// 1 is the next version, and so comes more often.
+const VERSIONS: [&[u8]; 12] =
+    [&[1], &[1], &[1], &[2], &[0x7F], &[0x80], &[0xFF], &[0, 0], &[0, 0x80], &[0, 1], &[1, 0], &[]];
+/// What may be left over in a version's A0.
+const BEHIND_A_VERSION: [&[u8]; 6] =
+    [&[0x05, 0x00], &[0x02, 0x01, 0x00], &[0x00], &[0x02], &[0x1F], &[0xA0, 0x00]];
+
+/// Another version than 0, now and then with more behind it.
+pub fn version(rng: &mut Rng) -> Piece {
+    let number = *rng.pick(&VERSIONS);
+    let mut pieces = vec![Piece::plain(0x02, number)];
+    if rng.once_in(5) {
+        pieces.push(Piece::Raw(rng.pick(&BEHIND_A_VERSION).to_vec()));
+    }
+    Piece::holds(0xA0, pieces)
+}
+
+/// A version in another form than A0 03 02 01 00.
+pub fn version_form(rng: &mut Rng) -> Piece {
+    let zero = Piece::plain(0x02, &[0]);
+    let length = Length::InOctets(rng.between(1, 3));
+    match rng.below(8) {
+        0 => Piece::holds(0xA0, vec![]),
+        1 => Piece::holds(0xA0, vec![Piece::plain(*rng.pick(&[0x0A, 0x0A, 0x04, 0x22]), &[0])]),
+        2 | 3 => {
+            let more = Piece::Raw(rng.pick(&BEHIND_A_VERSION).to_vec());
+            Piece::holds(0xA0, vec![zero, more])
+        }
+        4 => Piece::holds(*rng.pick(&[0xA1, 0xA2, 0xA3, 0x80]), vec![zero]),
+        5 => Piece::plain(0x80, &[0]),
+        6 => Piece::Holds { tag: 0xA0, length, pieces: vec![zero] },
+        _ => Piece::holds(0xA0, vec![Piece::Plain { tag: 0x02, length, contents: vec![0] }]),
+    }
+}
 
 /// What may come after a tag octet: nothing, length octets cut off, lengths of
 /// other forms, lengths that go too far, and contents that do not belong.

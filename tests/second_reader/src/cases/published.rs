@@ -53,6 +53,7 @@ pub fn records(response: &[u8]) -> Vec<Record> {
     }
     records.push(Record::new(SIGNED_PART, response.to_vec()));
     records.push(Record::new(SIGNATURE, response.to_vec()));
+    records.push(Record::new(RESPONDER_ID, response.to_vec()));
     let count = layout::read(response).map_or(0, |basic| basic.entries.len()) as u64;
     for place in (0..=count + 1).chain([u64::MAX]) {
         records.push(Record::walk(place, response));
@@ -123,15 +124,17 @@ fn near_misses(aim: &Aim) -> Vec<Question> {
     questions
 }
 
-/// Published responses with octets damaged, under the aimed question.
+/// Published responses with octets damaged, under the aimed question or asked for
+/// a part.
 pub fn mutated(from: &[Published], seed: u64, index: u64) -> Record {
     let rng = &mut Rng::for_case(seed, index);
     let mut response = rng.pick(from).octets.clone();
     let question = at_each(&response)[0].question.clone();
     damage::octets(rng, &mut response);
-    match rng.below(8) {
+    match rng.below(10) {
         0 => Record::new(SIGNED_PART, response),
         1 => Record::walk(rng.below(3) as u64, &response),
+        2 | 3 => Record::new(RESPONDER_ID, response),
         _ => Record::new(DESK, desk::put_together(&question, &response)),
     }
 }

@@ -66,6 +66,7 @@ pub fn accepted(rng: &mut Rng) -> Scene {
         _ => None,
     };
     let reading = Reading {
+        version_written: rng.once_in(4),
         responder,
         produced_at: random::moment(rng),
         entries,

@@ -1,9 +1,7 @@
--- `read_basic::signed::signed_body` meets its contract, by the responder id and what follows it.
+-- `read_basic::signed::signed_body` meets its contract, by the version and the fields after it.
 -- Assumes nothing.
 use borrow.Author.Needs.{needs}
-use Rattle.read_sequence.specs.CaseLaws.{field-end}
-use Rattle.read_basic.specs.MoreLaws.{more-wrong, more-place, more-moved}
-use Rattle.read_basic.proofs.SignedCases.{signed-more}
+use Rattle.read_basic.proofs.VersionCases.{version-wrong, version-end, version-place, version-moved}
 use Rattle.read_basic.proofs.signed.signed_body.Statement.{statement}
 use Rattle.read_basic.proofs.signed.signed_body.Tie as tie
 
@@ -14,14 +12,13 @@ signed-body-spec =
     (λ c κs. search needs)
     (λ c. search needs)
     (λ c. search needs)
-    (λ c. search field-end)
-    (λ c. search field-end)
+    (λ c. search version-end)
+    (λ c. search version-end)
     (λ c. search needs)
     (λ c κs. search needs)
     (λ c. search needs)
-    (λ c. search (more-place signed-more))
+    (λ c. search version-place)
     (λ c. search needs)
-    (λ c. search (more-place signed-more))
-    (λ c. search (more-wrong signed-more))
-    (λ c. search (more-moved signed-more))
-    (λ c. search (more-moved signed-more)))
+    (λ c. search version-wrong)
+    (λ c. search version-moved)
+    (λ c. search version-moved))

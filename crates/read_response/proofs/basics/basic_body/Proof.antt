@@ -2,7 +2,7 @@
 -- Assumes nothing.
 use borrow.Author.Needs.{needs}
 use Rattle.read_response.proofs.BasicCases.{head-place, head-end, end-fits, head-sum, start-sum}
-use Rattle.read_response.proofs.BasicCases.{basic-wrong, inside-place, inside-wrong, front-fits, after-end, after-fits, body-found}
+use Rattle.read_response.proofs.BasicCases.{basic-wrong, inside-place, inside-wrong, first-sum, front-fits, after-end, after-fits, body-found}
 use Rattle.read_response.proofs.basics.basic_body.Statement.{statement}
 use Rattle.read_response.proofs.basics.basic_body.Tie as tie
 
@@ -23,6 +23,7 @@ basic-body-spec =
     (λ c. search start-sum)
     (λ c. search inside-place)
     (λ c. search needs)
+    (λ c. search first-sum)
     (λ c κs. (search front-fits, search end-fits))
     (λ c κs. (search after-end, search after-fits))
     (λ c. search basic-wrong)
