@@ -12,6 +12,7 @@ pub mod LimitsLaws
 pub mod InnerLaws
 pub mod ReadLaws
 pub mod VersionLaws
+pub mod OtherVersionLaws
 pub mod Theorem
 pub mod Opened
 pub mod Examples

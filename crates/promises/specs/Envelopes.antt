@@ -1,5 +1,5 @@
 -- When 5 is given and when 3, in octets: which responses are of another type, and which don't fit.
--- IsError, IsOtherType, IsBasic; other-type-exactly, unfit-exactly, too-long-exactly; two-given, three-given, four-given,
+-- IsError, IsOtherType, IsBasic; success-form, other-type-exactly, unfit-exactly, too-long-exactly; two-given, three-given, four-given,
 -- five-given.
 -- `formOf` is an element, its tag, its length and its content (element: Form); `judgedOf` is what read_response::judge answers
 -- (response: Parts), `answerOf` what the check does (rules: Ruling), `der` the DER form of a reading (layout: Read).

@@ -25,6 +25,7 @@ use Rattle.layout.specs.LimitsLaws.{signed-limits}
 use Rattle.layout.specs.Read.{der, reads, unfit, reading}
 use Rattle.layout.specs.Theorem.{sound, complete}
 use Rattle.layout.specs.VersionLaws as laws
+use Rattle.layout.specs.OtherVersionLaws as others
 use Rattle.answer.specs.Verdict.{refused}
 use Rattle.read_response.specs.Parts.{judgedOf}
 use Rattle.read_response.specs.OutcomeLaws.{unfit-judged}
@@ -110,11 +111,11 @@ module _ (w z x y s : List ℕ) (other : w ≡ 0x00 ∷ [] → ⊥) (o : Octets 
   place = length s - length (formOf 0x02 w ++ (z ++ (x ++ y)))
 
   unfits : reading s ≡ unfit place
-  unfits = laws.another-place w z x y other s o le (same ∙ sym (success-form _ _))
+  unfits = others.another-place w z x y other s o le (same ∙ sym (success-form _ _))
 
   -- does not fit, and the place is that INTEGER
   pub another-version : (judgedOf s ≡ judged.Unfit place) × (drop place s ≡ formOf 0x02 w ++ (z ++ (x ++ y)))
-  another-version = (unfit-judged s place .1 (le, unfits), laws.another-stands w z x y other s (same ∙ sym (success-form _ _)))
+  another-version = (unfit-judged s place .1 (le, unfits), others.another-stands w z x y other s (same ∙ sym (success-form _ _)))
 
   -- so a question in range gets 3
   pub another-refused : (q : Question) (name : List ℕ) → InRange q name → answerOf q name s ≡ refused 3 0
