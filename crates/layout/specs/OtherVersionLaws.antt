@@ -67,15 +67,16 @@ module _ (w z x y : List ℕ) where
     unfolding v1 taggedDec filledDec fixedRead
     integer-wrong lt = rw (form-found 0x02 w z tag-02 lt, form-content 0x02 w z, not-nought (sameOf (0x00 ∷ []) w) refl)
 
-    version-wrong : length (formOf 0x02 w ++ z) < 2 ^ 64 → version .dec signedAs ≡ bad (headSize (length (formOf 0x02 w ++ z)) + 0)
+    version-wrong : length (formOf 0x02 w ++ z) < 2 ^ 64 → version .dec signedAs ≡ bad (headSize (length (formOf 0x02 w ++ z)))
     unfolding version onlyDec mappedDec fieldDec
     version-wrong lt =
         let small : length w < 2 ^ 64 = omega (arith, length-append (formOf 0x02 w) z, form-length 0x02 w) in
-        held 0xa0 (onlyDec (v1 .dec)) (formOf 0x02 w ++ z) x 0 tag-a0 lt (rw (integer-wrong small))
+        let start : headSize (length (formOf 0x02 w ++ z)) + 0 ≡ headSize (length (formOf 0x02 w ++ z)) = omega arith in
+        held 0xa0 (onlyDec (v1 .dec)) (formOf 0x02 w ++ z) x 0 tag-a0 lt (rw (integer-wrong small)) ∙ ap bad start
 
-    -- where the INTEGER stands in the signed part's content, in the basic response's, and in the basic response
+    -- where the INTEGER stands in the signed part's content, and in the basic response's
     abbrev inSigned : ℕ
-    inSigned = headSize (length (formOf 0x02 w ++ z)) + 0
+    inSigned = headSize (length (formOf 0x02 w ++ z))
 
     abbrev inBasic : ℕ
     inBasic = headSize (length signedAs) + inSigned
@@ -107,7 +108,7 @@ module _ (w z x y : List ℕ) where
       unfolding basicResponse onlyDec mappedDec fieldDec
       string-wrong = rw (rw append-nil at (held 0x30 (basicBody .dec) basicAs [] inBasic tag-30 basic-small basic-wrong))
 
-    -- what stands before the INTEGER
+    -- how many octets stand before the INTEGER
     before-integer : length (formOf 0x30 basicAs) ≡ headSize (length basicAs) + inBasic + length integerOn
     before-integer =
         omega (
@@ -123,6 +124,7 @@ module _ (w z x y : List ℕ) where
           length-append x y,
         )
 
+    -- and which octets these are
     string-as : formOf 0x30 basicAs
         ≡ (headForm 0x30 (length basicAs) ++ (headForm 0x30 (length signedAs) ++ headForm 0xa0 (length (formOf 0x02 w ++ z)))) ++ integerOn
     unfolding formOf

@@ -1,9 +1,10 @@
 -- The version of a signed part (document 02, C-12): which octets a written one is, that it changes no answer, and what
 -- another version gives.
--- version-octets, version-exactly, version-only, two-strings; no-answer-changed; another-version, another-refused.
--- `signedBody .enc` is the content of a signed part (layout: Format), `versioned` whether its version is written (layout:
--- Reading), `withVersion` the same signed part with its version written or not (layout: Reading), `formOf` an element,
--- its tag, its length and its content (element: Form).
+-- version-octets, version-taken, version-exactly, version-only, two-strings; no-answer-changed; another-version,
+-- another-refused.
+-- `version` reads a version, and `signedBody .enc` is the content of a signed part (layout: Format); `versioned` says whether
+-- its version is written, and `withVersion` is the same signed part with its version written or not (layout: Reading);
+-- `formOf` is an element, its tag, its length and its content (element: Form).
 -- One reading, one string of octets: OneReading has it of all readings, those with a version written among them.
 -- Assumes nothing.
 use Prim.Native.Nat.{ℕ, _-_, _≤_}
@@ -16,10 +17,10 @@ use borrow.Author.Tests.{le-ltb}
 use Rattle.octets.specs.Octets.{Octets}
 use Rattle.octets.specs.SameLaws.{impossible}
 use Rattle.element.specs.Form.{formOf}
-use Rattle.codec.specs.Codec.{read}
+use Rattle.codec.specs.Codec.{read, got}
 use Rattle.codec.specs.Starts.{startsWith}
 use Rattle.layout.specs.Reading.{Signed, withVersion, Basic, basic}
-use Rattle.layout.specs.Format.{signedBody, responseData}
+use Rattle.layout.specs.Format.{version, signedBody, responseData}
 use Rattle.layout.specs.Limits.{SignedOk, BasicOk}
 use Rattle.layout.specs.LimitsLaws.{signed-limits}
 use Rattle.layout.specs.Read.{der, reads, unfit, reading}
@@ -44,6 +45,10 @@ use Rattle.promises.specs.Envelopes.{success-form}
 pub version-octets : (d : Signed)
     → signedBody .enc (withVersion true d) ≡ (0xa0 ∷ 0x03 ∷ 0x02 ∷ 0x01 ∷ 0x00 ∷ []) ++ signedBody .enc (withVersion false d)
 version-octets = laws.version-written
+
+-- what is read as a version is these five octets, and they are always read so, whatever follows
+pub version-taken : (s : List ℕ) (n : ℕ) → Octets s → version .dec s ≡ got tt n ↔ (n ≡ 5) × (take 5 s ≡ 0xa0 ∷ 0x03 ∷ 0x02 ∷ 0x01 ∷ 0x00 ∷ [])
+version-taken = laws.version-taken
 
 -- the layout asks of a signed part what the limits say
 content-ok : (d : Signed) → SignedOk d → signedBody .ok d

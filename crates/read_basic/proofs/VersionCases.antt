@@ -1,5 +1,5 @@
 -- The cases of the reader of the signed part's content: maybe the version, then the fields.
--- movedOn; version-wrong, version-end, version-place, version-moved; version-there, version-missing.
+-- version-there, version-missing; movedOn; version-wrong, version-end, version-place, version-moved.
 -- Assumes nothing.
 use Prim.Native.Nat.{ℕ, _+_, _-_, _^_, _≤_, _<_}
 use native.Mathlib.Omega.{arith}
