@@ -3,6 +3,7 @@
  *
  *   desk_request       writes the request for a card
  *   desk_refusal       says whether a response can be judged at all, and if not why
+ *   desk_misfit        says at which octet a response does not fit the layout
  *   desk_signed        shows the part of a response that is signed
  *   desk_algorithm     shows the AlgorithmIdentifier of its signature
  *   desk_signature     shows the signature
@@ -21,8 +22,8 @@
  * What a caller of every function owes, since no function can test it:
  *   - a pointer to octets is valid for as many octets as the length beside it says. It is not NULL,
  *     also where that length is 0;
- *   - what a function writes (`slip`, `out`, `status`, `from`, `len`, `places`, and of desk_cache_file the
- *     `cache`) overlaps nothing else that it is lent;
+ *   - what a function writes (`slip`, `out`, `status`, `place`, `from`, `len`, `places`, and of
+ *     desk_cache_file the `cache`) overlaps nothing else that it is lent;
  *   - no other thread or process changes what is lent while the call lasts, or reads a cache while a slip is
  *     filed in it.
  *
@@ -131,7 +132,7 @@ extern "C" {
  * Numbers of refusals. A refusal is never "revoked": it says that there is no answer, and why.
  *     1  question out of range
  *     2  response longer than 16,384 octets
- *     3  octets do not fit the layout of a response, its limits included
+ *     3  octets do not fit the layout of a response, its limits included; desk_misfit says where
  *     4  the responder gave no answer; its status goes with the number: 1 malformed request,
  *        2 internal error, 3 try later, 5 signature required, 6 unauthorized
  *     5  response type is not the basic one
@@ -171,6 +172,22 @@ size_t desk_request(const uint8_t *card, size_t clen, uint8_t *out, size_t outle
  * with 4 (1, 2, 3, 5 or 6), else to 0.
  */
 size_t desk_refusal(const uint8_t *response, size_t rlen, size_t *status);
+
+/*
+ * Says at which octet a response does not fit the layout.
+ *
+ * Returns what desk_refusal returns: 0, or 2 to 5. With 3 sets `*place` to the octet, counted from 0 at the
+ * start of the response: the first place, from left to right, whose element itself, and not just one inside
+ * it, does not fit, the envelope before the basic response. It is the element's tag; but
+ *   - a missing element or a cut-off header is placed at the end of what holds it,
+ *   - left-over octets at the first of them,
+ *   - a repeated OID at its second occurrence, an item beyond a limit of number or depth at the first beyond.
+ * Overrunning what holds it counts against the element itself: a response that was cut short has as a rule
+ * place 0. So has an empty one. `*place` is at most `rlen`; it is `rlen` where something is missing at the end.
+ *
+ * With any other number `*place` is neither read nor written: it may hold nothing yet.
+ */
+size_t desk_misfit(const uint8_t *response, size_t rlen, size_t *place);
 
 /*
  * Shows the signed part of a response, header included: the octets over which its signature is made.

@@ -208,6 +208,7 @@ static void call_signature(void) { desk_signature(response, rlen, &from, &len); 
 static void call_algorithm(void) { desk_algorithm(response, rlen, &from, &len); }
 static void call_certificates(void) { desk_certificates(response, rlen, &from, &len); }
 static void call_refusal(void) { desk_refusal(response, rlen, &len); }
+static void call_misfit(void) { desk_misfit(response, rlen, &from); }
 static void call_entry(void) { desk_entry(response, rlen, ordinal, &from, &len); }
 static void call_request(void)
 {
@@ -252,6 +253,7 @@ static struct row {
     {"desk_algorithm", call_algorithm, 0, ""},
     {"desk_certificates", call_certificates, 0, ""},
     {"desk_refusal", call_refusal, 0, ""},
+    {"desk_misfit", call_misfit, 0, ""},
     {"desk_check", call_check, 0, ""},
     {"desk_slip", call_slip, 0, ""},
     {"desk_entry", call_entry, 0, ""},

@@ -14,7 +14,7 @@ mkdir bin
 cat >bin/rt <<'END'
 #!/bin/sh
 echo "proving $*"
-[ ! -e refuse ] && : >target/bin/desk
+[ ! -e refuse ] && : >"target/bin/$2"
 END
 chmod +x bin/rt
 : >refuse
@@ -31,6 +31,38 @@ rm target/bin/desk
 path=$room/nothing
 none "no rt" "ask: the program desk is not built, and the Rattle kit's command rt, \
 which builds it, is not on the PATH"
+
+# Where the program trial is missing, the answer is said without the place. Here the stand-in runs, with
+# the commands that it needs and without rt.
+mkdir commands
+for command in cat cksum dirname od sed tail tr; do
+    ln -s "$(command -v $command)" commands
+done
+path=$room/commands
+rm target/bin/trial
+: >target/bin/desk
+unplaced "no rt, for trial" "the program trial is not built, and the Rattle kit's command rt, \
+which builds it, is not on the PATH"
+is "a picture without the place" "$(tool broken/status.der $asked --picture a.svg 2>err | tail -n 1)" \
+    "drawn in a.svg, without a box marked as refused"
+is "a picture without the place: its words" "$(drawn a.svg | grep 'number 3')" \
+    "refused with number 3; where it breaks is not known, so no box is marked"
+path=$room/bin:$PATH
+: >refuse
+note="ask: the program trial is not built: running 'rt check trial', which may take minutes"
+tool broken/status.der $asked >out 2>err
+is "a trial that cannot be built: status" $? 1
+is "a trial that cannot be built" "$(cat out)" "$(cat without)"
+is "a trial that cannot be built: the complaint" "$(cat err)" "$note
+proving check trial
+ask: the answer stands, and where the response breaks is not known: \
+'rt check trial' failed, so nothing was asked"
+rm refuse
+tool broken/status.der $asked >out 2>err
+is "a trial just built" "$(sed -n 3p out)" "where it breaks"
+is "a trial just built: the note" "$(cat err)" "$note"
+
+path=$room/nothing
 rm target/bin/room
 is "no rt, for a room" "$(tool room a.room 2>&1)" "ask: the program room is not built, and the \
 Rattle kit's command rt, which builds it, is not on the PATH"

@@ -42,11 +42,28 @@ cache() { # PLACE...: hex of a cache with these places, or their beginnings, and
 }
 line() { printf '%s\n' "$1" | hex; } # DIGITS: a line of them, in hex
 
-# The stand-in takes the response for the slip to be written, and keeps its words and its input.
-# For room it writes the file reply-NN for operation NN; where there is no such file, it is the program.
+# Responses that are refused with number 3, with their places, and a list of their sums.
+mkdir broken
+"$python" -S -E "$top/tests/ask/broken.py" broken
+cksum broken/*.der | grep -v ' 0 broken/empty' >sums
+
+# The stand-in takes the response for the slip to be written, and keeps its words and its input; but a
+# response that the list has is refused with number 3. For trial it writes the place of the response,
+# or the file answered where there is one. For room it writes the file reply-NN for operation NN; where
+# there is no such file, it is the program.
 cat >run <<'END'
 #!/bin/sh
 cd "$(dirname "$0")" || exit 2
+place() { # the place of the response, where the list has it
+    file=$(sed -n "s/^$(cksum <response) //p" sums)
+    [ -n "$file" ] && cat "${file%.der}.place"
+}
+if [ "$*" = trial ]; then
+    cat >input-trial
+    tail -c +359 input-trial >response
+    cat answered 2>/dev/null || place
+    exit "$(cat status-trial 2>/dev/null || echo 0)"
+fi
 if [ "$*" = room ]; then
     set -- reply-*
     [ -e "$1" ] || exec top/run room
@@ -58,8 +75,13 @@ if [ "$*" = room ]; then
 fi
 echo "$*" >words
 cat >input
-tail -c +354 input | od -An -v -tx1 | tr -d ' \n'
-echo
+tail -c +354 input >response
+if place >/dev/null; then
+    echo 040300
+else
+    od -An -v -tx1 response | tr -d ' \n'
+    echo
+fi
 cat more 2>/dev/null
 exit "$(cat status)"
 END
@@ -68,6 +90,7 @@ echo 0 >status
 mkdir -p target/bin
 : >target/bin/desk
 : >target/bin/room
+: >target/bin/trial
 ln -s "$top" top
 mkdir tools
 cp "$top/ask" ask

@@ -7,7 +7,8 @@
 # Of every case it also holds:
 #   the exit status is, by the first word shown, 1 for another answer than good, 2 for bad use, else 0;
 #   bad use writes one line, and that to standard error; all else writes to standard output;
-#   a refusal says that the folio stays closed, and has no word of revoking.
+#   a refusal says that the folio stays closed, and has no word of revoking, but for the names of
+#   elements that tell where a response breaks.
 
 import contextlib
 import io
@@ -59,6 +60,13 @@ def outcome(tool, code, words):
     return status, out.getvalue().splitlines(), err.getvalue().splitlines()
 
 
+def outside(shown):
+    """The lines of an answer without those that tell where a response breaks."""
+    if 'where it breaks' not in shown:
+        return shown
+    return shown[:shown.index('where it breaks')] + shown[shown.index('asked with'):]
+
+
 def fault(shown, status, out, err):
     """What is wrong with a case, or nothing."""
     if out + err != shown:
@@ -68,7 +76,7 @@ def fault(shown, status, out, err):
         return f'exit status {status}'
     if (status == 2) != bool(err) or (err and (out or len(err) != 1)):
         return 'not one line to the right output'
-    text = '\n'.join(shown)
+    text = '\n'.join(outside(shown))
     if first == 'refused,' and ('The folio stays closed.' not in text or 'revo' in text.lower()):
         return 'a refusal in the wrong words'
     return None

@@ -1,4 +1,5 @@
 # What ./ask writes for the stand-in's slips and for bad values, its exit status and its help.
+mkdir broken/folder.svg
 transcripts ./ask tests/ask/words.txt tests/ask/values.txt tests/ask/answers.txt
 
 # The exit status of the tool itself, and its help.
@@ -14,7 +15,7 @@ is "status of bad use" $? 2
 tool --help >out
 is "status of --help" $? 0
 for option in card issuer serial name-hash key-hash now tolerance verdict role marks signer \
-    signer-key signer-name room octets hex slip refusals help; do
+    signer-key signer-name picture room octets hex slip refusals help; do
     grep -q -e "^  --$option " out || is "--help" "no --$option" "--$option"
 done
 for form in "--room FILE [RESPONSE.der] --card CERT --issuer CERT [OPTION...]" \

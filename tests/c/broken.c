@@ -22,6 +22,23 @@
     F(REFUSAL_DROPS, "desk_refusal leaves the status out") \
     F(REFUSAL_LEAVES, "desk_refusal leaves the status as it was") \
     F(REFUSAL_BESIDE, "desk_refusal writes beside the status") \
+    F(MISFIT_PAST, "desk_misfit reads past the response") \
+    F(MISFIT_BEFORE, "desk_misfit reads before the response") \
+    F(MISFIT_WRITES, "desk_misfit writes into the response") \
+    F(MISFIT_PAST_PLACE, "desk_misfit writes past *place") \
+    F(MISFIT_BEFORE_PLACE, "desk_misfit writes before *place") \
+    F(MISFIT_HALF, "desk_misfit writes four octets of *place") \
+    F(MISFIT_LEAVES, "desk_misfit leaves *place as it was with 3") \
+    F(MISFIT_WITH_5, "desk_misfit writes *place with 5") \
+    F(MISFIT_ZERO, "desk_misfit sets *place to 0 with other numbers than 3") \
+    F(MISFIT_READS, "desk_misfit reads *place with other numbers than 3") \
+    F(MISFIT_STATUS, "desk_misfit returns the status in the number's place") \
+    F(MISFIT_TYPE, "desk_misfit says 3 of another type") \
+    F(MISFIT_FROM_1, "desk_misfit counts octets from 1") \
+    F(MISFIT_STRING, "desk_misfit counts from the start of the string") \
+    F(MISFIT_REPEAT, "desk_misfit places a repeat one element too early") \
+    F(MISFIT_END, "desk_misfit places what is missing at the last octet") \
+    F(MISFIT_ORDER, "desk_misfit places the basic response before what is behind the envelope") \
     F(SIGNED_PAST, "desk_signed reads past the response") \
     F(SIGNED_BEFORE, "desk_signed reads before the response") \
     F(SIGNED_LEAVES, "desk_signed leaves *from as it was with a refusal") \
@@ -134,6 +151,79 @@ size_t __wrap_desk_refusal(const uint8_t *response, size_t rlen, size_t *status)
     if (broken == REFUSAL_BESIDE)
         status[1] = 0;
     return number;
+}
+
+size_t __real_desk_misfit(const uint8_t *response, size_t rlen, size_t *place);
+
+/* Where the string of a basic response begins, or 0: behind the type's OID and the string's header. */
+static size_t string_start(const uint8_t *response, size_t rlen)
+{
+    static const uint8_t type[] = {0x06, 0x09, 0x2B, 0x06, 0x01, 0x05, 0x05, 0x07, 0x30, 0x01, 0x01, 0x04};
+    for (size_t at = 0; at + sizeof type < rlen; at++)
+        if (memcmp(response + at, type, sizeof type) == 0) {
+            uint8_t length = response[at + sizeof type];
+            return at + sizeof type + 1 + (length > 0x80 ? length & 0x0F : 0);
+        }
+    return 0;
+}
+
+/* Whether the OID at a place stands further left too. */
+static int is_repeat(const uint8_t *response, size_t rlen, size_t place)
+{
+    if (rlen - place < 2 || response[place] != 0x06 || rlen - place - 2 < response[place + 1])
+        return 0;
+    for (size_t at = 0; at < place; at++)
+        if (memcmp(response + at, response + place, 2 + (size_t)response[place + 1]) == 0)
+            return 1;
+    return 0;
+}
+
+/* The wrong place for a right one. */
+static size_t misplaced(const uint8_t *response, size_t rlen, size_t place)
+{
+    size_t start = string_start(response, rlen), other;
+    if (broken == MISFIT_FROM_1)
+        return place + 1;
+    if (broken == MISFIT_STRING && start > 0 && place >= start)
+        return place - start;
+    if (broken == MISFIT_REPEAT && is_repeat(response, rlen, place))
+        return place - 2;
+    if (broken == MISFIT_END && place == rlen && rlen > 0)
+        return place - 1;
+    /* Without what is behind the envelope; where anything else is left out, the envelope overruns the rest. */
+    if (broken == MISFIT_ORDER && __real_desk_misfit(response, place, &other) == 3 && other > 0)
+        return other;
+    return place;
+}
+
+/* Without a fault, `*place` is neither read nor written where the library's function does not write it. */
+size_t __wrap_desk_misfit(const uint8_t *response, size_t rlen, size_t *place)
+{
+    size_t status, found;
+    int apart = broken == MISFIT_LEAVES || broken == MISFIT_HALF;
+    touch(response, rlen, MISFIT_BEFORE, MISFIT_PAST);
+    if (broken == MISFIT_WRITES && rlen > 0)
+        *(volatile uint8_t *)response = response[0];
+    size_t number = __real_desk_misfit(response, rlen, apart ? &found : place);
+    if (number == 3 && !apart)
+        *place = misplaced(response, rlen, *place);
+    if (number == 3 && broken == MISFIT_HALF)
+        memcpy(place, &found, sizeof *place / 2);
+    if (broken == MISFIT_PAST_PLACE && number == 3)
+        place[1] = 0;
+    if (broken == MISFIT_BEFORE_PLACE && number == 3)
+        place[-1] = 0;
+    if ((broken == MISFIT_WITH_5 || broken == MISFIT_TYPE) && number == 5)
+        *place = string_start(response, rlen);
+    if (broken == MISFIT_ZERO && number != 3)
+        *place = 0;
+    if (broken == MISFIT_READS && number != 3)
+        (void)*(volatile size_t *)place;
+    if (broken == MISFIT_STATUS && number == 4) {
+        __real_desk_refusal(response, rlen, &status);
+        return status;
+    }
+    return broken == MISFIT_TYPE && number == 5 ? 3 : number;
 }
 
 size_t __real_desk_signed(const uint8_t *response, size_t rlen, size_t *from, size_t *len);

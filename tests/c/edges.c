@@ -3,13 +3,14 @@
  *
  *     edges answers < STREAM    a line for each case, in the form of tests/README.md
  *     edges parts < STREAM      what is shown of each desk case's response
- *     edges document            document 01's case, source document 000's A.1, document 02's cache, and odd
- *                               lengths
+ *     edges places < STREAM     the place of what does not fit in each desk case's response
+ *     edges document            document 01's case, source document 000's A.1, document 02's cache and places,
+ *                               and odd lengths
  *
  * Each call is made at every edge, with buffers of exact, longer and shorter sizes. What desk.h
  * promises of each call is looked at here; what is answered is written, for others to compare. For a
  * slip the line is what desk_slip returns. Ends with 1 at the first broken promise. The functions on the
- * cache are called in caches.c.
+ * cache are called in caches.c, desk_misfit in misfits.c.
  */
 #include "edges.h"
 
@@ -321,9 +322,19 @@ static void parts(void)
     }
 }
 
+static void places(void)
+{
+    size_t len;
+    for (int operation; (operation = next_case(&len)) != 0;)
+        if (operation == 1 || operation == 10)
+            answer_place(body, len);
+        else
+            printf("-\n");
+}
+
 /* From the documents. */
 
-static size_t from_hex(const char *hex, uint8_t *octets)
+size_t from_hex(const char *hex, uint8_t *octets)
 {
     size_t n = 0;
     unsigned octet;
@@ -439,18 +450,22 @@ int main(int argc, char **argv)
     from_room = new_room(PROT_READ | PROT_WRITE);
     len_room = new_room(PROT_READ | PROT_WRITE);
     new_cache_rooms();
+    new_misfit_rooms();
     if (strcmp(word, "answers") == 0)
         answers();
     else if (strcmp(word, "parts") == 0)
         parts();
+    else if (strcmp(word, "places") == 0)
+        places();
     else if (strcmp(word, "document") == 0) {
         document_check();
         document_refusal();
         document_request();
         document_slip();
         document_caches();
+        document_misfits();
     } else {
-        fprintf(stderr, "usage: edges answers | parts | document\n");
+        fprintf(stderr, "usage: edges answers | parts | places | document\n");
         return 2;
     }
     return 0;

@@ -32,7 +32,7 @@ struct room {
     uint8_t *shown;  /* the same octets, as the functions see them */
 };
 
-static struct room new_room(int protection)
+static inline struct room new_room(int protection)
 {
     struct room room;
     int memory = memfd_create("room", 0);
@@ -52,36 +52,36 @@ static struct room new_room(int protection)
     return room;
 }
 
-static size_t place(enum edge edge, size_t len)
+static inline size_t place(enum edge edge, size_t len)
 {
     return edge == AT_START ? 0 : ROOM - len;
 }
 
-static void put(const struct room *room, const uint8_t *octets, size_t len)
+static inline void put(const struct room *room, const uint8_t *octets, size_t len)
 {
     memcpy(room->inside + place(AT_START, len), octets, len);
     memcpy(room->inside + place(AT_END, len), octets, len);
 }
 
-static const uint8_t *lent(const struct room *room, enum edge edge, size_t len)
+static inline const uint8_t *lent(const struct room *room, enum edge edge, size_t len)
 {
     return room->shown + place(edge, len);
 }
 
 /* Another octet at each edge: what is written over one of them by itself is seen at the other. */
-static uint8_t fill(enum edge edge)
+static inline uint8_t fill(enum edge edge)
 {
     return edge == AT_START ? 0xEE : 0x11;
 }
 
-static uint8_t *lend_buffer(const struct room *room, enum edge edge, size_t len)
+static inline uint8_t *lend_buffer(const struct room *room, enum edge edge, size_t len)
 {
     memset(room->inside + place(edge, len + BESIDE), fill(edge), len + BESIDE);
     return room->shown + place(edge, len);
 }
 
 /* The fill is where it was, but for the first `n` octets of the buffer. */
-static int kept(const struct room *room, enum edge edge, size_t len, size_t n)
+static inline int kept(const struct room *room, enum edge edge, size_t len, size_t n)
 {
     const uint8_t *from = room->inside + place(edge, len + BESIDE);
     size_t first = edge == AT_START ? 0 : BESIDE;

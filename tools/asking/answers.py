@@ -1,9 +1,12 @@
 # Answers: a slip in words, and what the program desk says to a question and a response.
 
-from .programs import desk
+from .misfits import misfit_lines
+from .pictures import draw
+from .programs import desk, misfit_place
 from .questions import card_rows, question_faults, question_octets, question_rows
 from .slips import REFUSED, Broken, slip_of, slip_words, status_of
-from .values import hex_octets
+from .values import BadUse, complain, hex_octets
+from .walk import Walk
 from .words import CLOSED, below, refused, row
 
 
@@ -27,10 +30,33 @@ def why(question, slip):
     return []
 
 
-def check(question, response, with_hex):
+def walked(question, response, slip):
+    """The walk through a response, to where it breaks if it is refused with number 3."""
+    place = None
+    if slip.number == 3:
+        try:
+            place = misfit_place(question_octets(question) + response, len(response))
+        except BadUse as bad:
+            complain(f'the answer stands, and where the response breaks is not known: {bad}')
+    return Walk(response, place)
+
+
+def draw_answer(picture, walk, slip):
+    """Draws the picture, and says so."""
+    try:
+        draw(picture, walk, slip.number)
+    except BadUse as bad:
+        complain(f'the answer stands, and is not drawn: {bad}')
+        return
+    print(f'drawn in {picture}' + ('' if walk.misfit else ', without a box marked as refused'))
+
+
+def check(question, response, with_hex, picture=None):
     """Asks the program `desk`, and says its answer: the slip's octets, and the slip."""
     octets, slip = desk(question_octets(question) + response)
-    lines = slip_words(slip) + why(question, slip) + ['asked with']
+    print(*slip_words(slip), *why(question, slip), sep='\n', flush=True)
+    walk = walked(question, response, slip)
+    lines = (misfit_lines(walk) if walk.misfit else []) + ['asked with']
     if slip.kind == REFUSED:
         lines += card_rows(question.card)
     lines += question_rows(question)
@@ -40,4 +66,6 @@ def check(question, response, with_hex):
     if with_hex:
         lines.append('slip ' + octets.hex())
     print(*lines, sep='\n', flush=True)
+    if picture is not None:
+        draw_answer(picture, walk, slip)
     return octets, slip

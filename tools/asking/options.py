@@ -21,6 +21,12 @@ With the role ca, the signer is the issuer unless told otherwise: its key hash a
 its Name. A delegate or a local signer has to be told by --signer, or by --signer-key, or by
 --signer-name, or by the last two together; a key hash that is not told is then zeros.
 
+With number 3 it says where the response breaks, as the proved program trial tells it: the first
+octet that does not fit, counted from 0 in the response; the path of elements that leads there, by
+their names in RFC 6960, items counted from 1; what is expected and what is found there; and lines
+of hex with a mark under the octet, to be sent to the issuer. --picture draws the response as nested
+boxes, the refused one in red. Where trial cannot be run, the answer is said without the place.
+
 A room's cache is a file of 64 places, each for one card's answer. --room asks it first, by the
 proved program room. Where it has no answer that counts now, RESPONSE.der is checked, and its answer
 is filed unless it is a refusal; without RESPONSE.der only the cache is asked. './ask room FILE'
@@ -29,13 +35,14 @@ and is kept as it is; the response's answer is said all the same. Writers hold t
 write FILE.new and rename it. A response in a file named room is told as ./room.
 
 Exit status: 0 good, 1 any other answer, 2 no answer because of bad use or a program that does not
-run. An answer that could not be filed keeps its status. './ask room' ends with 0 where it lists or
-makes a room, with 1 where it is refused. --octets, --refusals and --help end with 0.
+run. An answer that could not be filed or drawn keeps its status. './ask room' ends with 0 where it
+lists or makes a room, with 1 where it is refused. --octets, --refusals and --help end with 0.
 
   ./ask answer.der --card reader.pem --issuer ca.pem --verdict valid
   ./ask answer.der --card reader.pem --issuer ca.pem --verdict valid \\
         --role delegate --marks all --signer responder.pem
   ./ask --room desks.room answer.der --card reader.pem --issuer ca.pem --verdict valid
+  ./ask answer.der --card reader.pem --issuer ca.pem --picture answer.svg
   ./ask --slip 040406'''
 
 # Each option that takes a value: its name, what it takes, its value if not given, its words.
@@ -66,6 +73,11 @@ OPTIONS = [
         ('--signer-key', 'HEX', None, "SHA-1 of the signer's key, 20 octets"),
         ('--signer-name', 'HEX', None,
          "the signer's Name in DER, at most 256 octets; @FILE takes it from a file"),
+    ]),
+    ('the picture', [
+        ('--picture', 'FILE.svg', None,
+         'draw the response as nested boxes, an element each, and mark the one that is refused '
+         'with number 3; not together with --room'),
     ]),
     ("the room's cache", [
         ('--room', 'FILE', None, 'ask this cache first, and file there what was checked'),

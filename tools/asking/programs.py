@@ -1,4 +1,5 @@
-# The programs desk and room: built where they are missing, run, and held to what they may write.
+# The programs desk, room and trial: built where they are missing, run, and held to what they may
+# write.
 
 import contextlib
 import os
@@ -15,7 +16,8 @@ from .values import BadUse, complain
 TOP = os.path.dirname(os.path.dirname(os.path.dirname(os.path.abspath(__file__))))
 
 # What it means that a program runs and gives nothing.
-SILENT = {'desk': 'there is no answer', 'room': 'the cache gives no answer'}
+SILENT = {'desk': 'there is no answer', 'room': 'the cache gives no answer',
+          'trial': 'there is no place'}
 
 
 def build(program):
@@ -68,6 +70,20 @@ def desk(octets):
     with written_by('desk', 'slip'):
         octets = line_octets(written)
         return octets, slip_of(octets)
+
+
+# The operation of the program `trial` that tells where an input of `desk` breaks.
+PLACE_OF = 0x0A
+
+
+def misfit_place(octets, size):
+    """The place that the program `trial` gives for an input of `desk` that is refused with number
+    3, in a response of this size."""
+    written = output_of('trial', bytes([PLACE_OF]) + len(octets).to_bytes(4, 'big') + octets)
+    with written_by('trial', 'place'):
+        keep(re.fullmatch(b'(0|[1-9][0-9]{0,4})\n', written), 'it is not one line with a number')
+        keep(int(written) <= size, f'the response has no octet {int(written)}')
+    return int(written)
 
 
 # The operations of the program `room`, each with the numbers other than 0 that it may give.

@@ -2,9 +2,9 @@
 
 import fcntl
 import os
-import shutil
 
 from .answers import check
+from .files import real, replace
 from .places import CACHE, PLACES, STANDINGS, filled, not_a_cache, places_of
 from .programs import ASK, FILE, LIST, NEW, NOT_HELD, room, written_by
 from .questions import ask_faults, card_octets, card_rows, clock_faults, clock_rows
@@ -23,30 +23,12 @@ def room_octets(path):
             raise BadUse(f"there is no {path}; './ask room {path} --new' makes it") from None
 
 
-def real(path):
-    """The file that a link leads to: writers of one room meet at one lock, and the link stays."""
-    return os.path.realpath(path) if os.path.islink(path) else path
-
-
 def lock(path):
     """The lock file beside a room's file, held until it is closed. Every writer takes it first."""
     with told(f'cannot lock {path}.lock'):
         held = open(path + '.lock', 'ab')
         fcntl.flock(held, fcntl.LOCK_EX)
     return held
-
-
-def replace(path, octets):
-    """Writes a room's file beside it and renames, so that it is the old one or the new one."""
-    beside = path + '.new'
-    with told(f'cannot write {beside}'):
-        with open(beside, 'wb') as file:
-            file.write(octets)
-            file.flush()
-            os.fsync(file.fileno())
-        if os.path.exists(path):
-            shutil.copymode(path, beside)
-        os.replace(beside, path)
 
 
 def new_room(path):

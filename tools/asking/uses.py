@@ -1,6 +1,7 @@
 # The uses of ./ask, by its arguments, and its exit status.
 
 from .answers import check, word_slip
+from .files import picture_path
 from .given import clock_of, question_of
 from .options import ask_parser, room_parser
 from .questions import question_octets
@@ -18,9 +19,20 @@ def room_main(arguments):
     return list_room(words.file, clock_of(words))
 
 
+def alone(words):
+    """Refuses --picture beside a use that looks at no response, or maybe at none."""
+    others = [('--refusals', words.refusals), ('--slip', words.slip is not None),
+              ('--octets', words.octets), ('--room', words.room is not None)]
+    for option, given in others:
+        if words.picture is not None and given:
+            raise BadUse('--picture draws a response that desk is asked about; '
+                         f'leave {option} away')
+
+
 def ask_main(arguments):
     """./ask with options: lists the refusals, words a slip, shows the octets, or asks."""
     words = ask_parser().parse_args(arguments)
+    alone(words)
     if words.refusals:
         print(*(f'{refusal:>2}  {refusal_words(refusal)}' for refusal in REFUSALS),
               CACHE_REFUSALS, sep='\n')
@@ -40,7 +52,8 @@ def ask_main(arguments):
     if words.octets:
         print((question_octets(question) + response).hex())
         return 0
-    _, slip = check(question, response, words.hex)
+    picture = None if words.picture is None else picture_path(words.picture)
+    _, slip = check(question, response, words.hex, picture)
     return status_of(slip)
 
 

@@ -62,6 +62,22 @@ def row(name, words):
     return f'  {name:<12}{words}'
 
 
+def wrapped(pieces, width):
+    """Pieces in lines with a space between, broken between two pieces alone."""
+    lines = ['']
+    for piece in pieces:
+        if lines[-1] and len(lines[-1]) + 1 + len(piece) > width:
+            lines.append(piece)
+        else:
+            lines[-1] = f'{lines[-1]} {piece}'.lstrip()
+    return lines
+
+
+def rows(name, lines):
+    """A row of several lines."""
+    return [row('' if number else name, line).rstrip() for number, line in enumerate(lines)]
+
+
 def below(words):
     """Words as lines below another."""
     return ['  ' + line for line in words]

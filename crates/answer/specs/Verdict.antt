@@ -1,5 +1,6 @@
 -- What document 01 says of each case of an answer: its kind, its values, and the number and the status of a refusal.
--- kindOf; reasonOf, valuesOf; numberOf, statusOf; refused. That a refusal is none of the others is in VerdictLaws.
+-- kindOf; reasonOf, valuesOf; numberOf, statusOf; saying, withoutPlace; refusedAt, refused. That a refusal is none of the
+-- others is in VerdictLaws.
 -- Assumes nothing.
 use Prim.Native.Nat.{ℕ}
 use mathlib.Core.List.{List, [], _∷_}
@@ -7,6 +8,9 @@ use Rattle.answer.specs.declared.Reason.{Reason}
 use Rattle.answer.specs.declared.Reason.the-variants.{Given, Absent}
 use Rattle.answer.specs.declared.Verdict.{Verdict}
 use Rattle.answer.specs.declared.Verdict.the-variants.{Good, Revoked, Unknown, Refused}
+use Rattle.answer.specs.declared.Card.{Card}
+use Rattle.answer.specs.declared.Place.{Place}
+use Rattle.answer.specs.declared.Place.the-variants as place
 use Rattle.answer.specs.declared.Answer.{Answer}
 use Rattle.answer.specs.Card.{emptyCard}
 
@@ -43,6 +47,18 @@ statusOf (Revoked this next at reason) = 0
 statusOf (Unknown this next) = 0
 statusOf (Refused number status) = status
 
--- a refusal returns its number and status and an empty card
+-- a verdict for a card, without a place
+abbrev pub saying : Verdict → Card → Answer
+saying verdict card = record { verdict = verdict; card = card; place = place.Absent }
+
+-- the same answer without its place
+abbrev pub withoutPlace : Answer → Answer
+withoutPlace a = saying (a .verdict) (a .card)
+
+-- a refusal returns its number and status, the place where it has one, and an empty card
+abbrev pub refusedAt : ℕ → ℕ → Place → Answer
+refusedAt number status place = record { verdict = Refused number status; card = emptyCard; place = place }
+
+-- one that has no place
 unfoldable pub refused : ℕ → ℕ → Answer
-refused number status = record { verdict = Refused number status; card = emptyCard }
+refused number status = refusedAt number status place.Absent

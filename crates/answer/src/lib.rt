@@ -1,7 +1,8 @@
 // What the desk is told: a card, and what a response says of it.
 //
 // An accepted answer is good, revoked or unknown, with its card and its times. A refusal is a number,
-// with a status where the number is 4, and an empty card; it is never one of the three.
+// with a status where the number is 4, a place where it is 3, and an empty card; it is never one of the
+// three.
 //
 // No function here has a requirement.
 mod cards; // the card
@@ -13,6 +14,7 @@ pub use cards::empty_card;
 pub use cards::field_fits;
 pub use cards::same_card;
 pub use verdicts::refuse;
+pub use verdicts::refuse_at;
 
 // Which reader's card: the issuer's two hashes and the serial's octets, filled up with zeros.
 pub struct Card {
@@ -50,8 +52,16 @@ pub enum Verdict {
     },
 }
 
-// The verdict, with the card that it is about beside it.
+// Where a response does not fit: with refusal 3 the octet that is objected to, counted from the start of
+// the response.
+pub enum Place {
+    Absent,
+    At(usize),
+}
+
+// The verdict, with the card that it is about beside it, and the place where the verdict has one.
 pub struct Answer {
     pub verdict: Verdict,
     pub card: Card,
+    pub place: Place,
 }

@@ -19,7 +19,7 @@ use Rattle.answer.specs.declared.Answer.{Answer}
 use Rattle.answer.specs.declared.Verdict.the-variants.{Good}
 use Rattle.answer.specs.Card.{cardOk, fieldOk}
 use Rattle.answer.specs.CardLaws.{field-exactly}
-use Rattle.answer.specs.Verdict.{refused}
+use Rattle.answer.specs.Verdict.{saying, refused}
 use Rattle.fields.specs.Field.{cardIn}
 use Rattle.fields.specs.Output.{outputIn}
 use Rattle.fields.specs.OutputLaws.{kept-refused, first-written}
@@ -49,7 +49,7 @@ use Rattle.cache_ask.specs.Found.{cardInRange, cardOrZeros, missesAt, fo
 
 -- a good answer about a card
 abbrev pub good : Card → Answer
-good card = record { verdict = Good 0 0; card = card }
+good card = saying (Good 0 0) card
 
 module _ (card : Card) (h : Sized 20 card) where
   -- it may be written exactly if the card is in range

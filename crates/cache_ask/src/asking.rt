@@ -3,6 +3,7 @@ use crate::Sought;
 use crate::finding;
 use answer::Answer;
 use answer::Card;
+use answer::Place;
 use answer::Verdict;
 use cache_rules::Asked;
 use cache_rules::Told;
@@ -18,7 +19,13 @@ fn card_slip(card: Card) -> [u8; 78]
 {
     let mut slip = [0u8; 78];
     let verdict = Verdict::Good { this: 0, next: 0 };
-    slip_write::write_slip(Answer { verdict, card }, &mut slip);
+    let place = Place::Absent;
+    let answer = Answer {
+        verdict,
+        card,
+        place,
+    };
+    slip_write::write_slip(answer, &mut slip);
     slip
 }
 

@@ -12,7 +12,7 @@ use borrow.Author.Tests.{eq-eqb, le-ltb, ltb-true, ltb-false}
 use Rattle.octets.specs.SameLaws.{impossible}
 use Rattle.layout.specs.Reading.{Status, good, revoked, unknown, Entry, Basic}
 use Rattle.answer.specs.declared.Answer.{Answer}
-use Rattle.answer.specs.Verdict.{refused}
+use Rattle.answer.specs.Verdict.{saying, refused}
 use Rattle.rules.specs.declared.Question.{Question}
 use Rattle.rules.specs.Question.{inRange}
 use Rattle.rules.specs.Signer.{isSigner, inResponse, inEntry, strangeIn}
@@ -76,7 +76,7 @@ module _ (clock : Clock) (q : Question) (name s : List ℕ) where
     this = e .thisUpdate
 
     abbrev answer : Answer
-    answer = record { verdict = said (e .status) this next; card = q .card }
+    answer = saying (said (e .status) this next) (q .card)
 
     -- the tests that do not look at the clock
     size : ltb 16384 (length s) ≡ false

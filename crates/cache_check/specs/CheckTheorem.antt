@@ -14,7 +14,7 @@ use Rattle.answer.specs.declared.Verdict.{Verdict}
 use Rattle.answer.specs.declared.Verdict.the-variants as verdict
 use Rattle.answer.specs.declared.Answer.{Answer}
 use Rattle.answer.specs.Card.{cardOk}
-use Rattle.answer.specs.Verdict.{kindOf, refused}
+use Rattle.answer.specs.Verdict.{kindOf, saying, refused}
 use Rattle.slip.specs.Slip.{cardOctets}
 use Rattle.layout.specs.Reading.{Entry, Basic}
 use Rattle.rules.specs.declared.Question.{Question}
@@ -66,7 +66,7 @@ module _ (q : Question) (name r s : List ℕ) (o : Octets s) (c : isCache s ≡ 
       go basic entry next a (e ∙ w) h (clockOk clock) refl
     where
       go : (basic : Basic) (entry : Entry) (next : ℕ) (a : Accepted q name r basic entry next)
-          → saysAt (placeIn s i) ≡ record { verdict = said (entry .status) (entry .thisUpdate) next; card = q .card }
+          → saysAt (placeIn s i) ≡ saying (said (entry .status) (entry .thisUpdate) next) (q .card)
           → cardAt (placeIn s i) ≡ cardOctets (q .card)
           → (t : Bool) → clockOk clock ≡ t → askOf clock (q .card) s ≡ told (answerOf (askedAt clock q) name r)
       go basic entry next a w h false k = let (x, y) = outside-both clock k q name r s c in x ∙ ap told (sym y)

@@ -8,10 +8,11 @@ use mathlib.Core.Bool.{Bool, true, false}
 use mathlib.Core.List.{List}
 use Rattle.octets.specs.Octets.{Octets}
 use Rattle.answer.specs.declared.Answer.{Answer}
-use Rattle.answer.specs.Verdict.{refused}
+use Rattle.answer.specs.Verdict.{withoutPlace, refused}
 use Rattle.slip.specs.Slip.{slipOf}
 use Rattle.slip.specs.SlipLaws.{read-written}
 use Rattle.rules.specs.Ruling.{answerOf}
+use Rattle.rules.specs.RulingLaws.{accepted-placeless}
 use Rattle.rules.specs.Accepted.{NoRefusal}
 use Rattle.desk_question.specs.Asked.{questionIn, nameIn, questionOk, asked}
 use Rattle.desk_question.specs.AskedLaws.{asked-kept, asked-broken}
@@ -30,4 +31,7 @@ desk-asked q r v = go (questionOk 20 q) refl
 
 -- its slip says it
 pub desk-says : (q r : List ℕ) → Octets r → NoRefusal (asked q r .verdict) → saysOf (slipOf (asked q r)) ≡ answerOf (questionIn 20 q) (nameIn 20 q) r
-desk-says q r o v = read-written (asked q r) (fits-slip q r o) 20 (λ c. asked-sized q r) ∙ desk-asked q r v
+desk-says q r o v =
+    let e = desk-asked q r v in
+    read-written (asked q r) (fits-slip q r o) 20 (λ c. asked-sized q r) ∙ ap withoutPlace e
+    ∙ accepted-placeless (questionIn 20 q) (nameIn 20 q) r (rw e at v)

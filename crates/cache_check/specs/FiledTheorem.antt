@@ -14,7 +14,7 @@ use Rattle.slip.specs.SlipLaws.{read-written}
 use Rattle.rules.specs.declared.Question.{Question}
 use Rattle.rules.specs.Ruling.{answerOf}
 use Rattle.rules.specs.Accepted.{NoRefusal}
-use Rattle.rules.specs.RulingLaws.{accepted-exactly, accepted-answer}
+use Rattle.rules.specs.RulingLaws.{accepted-exactly, accepted-answer, accepted-placeless}
 use Rattle.desk_question.specs.FitsLaws.{answer-fits}
 use Rattle.freshness.specs.declared.Clock.{Clock}
 use Rattle.cache_rules.specs.declared.Filed.the-variants.{Count, Refused}
@@ -77,7 +77,7 @@ module _ (q : Question) (name r : List ℕ) (o : Octets r) (n : NoRefusal (answe
   check-slip =
       let (basic, entry, next, a) = accepted-exactly q name r .0 n in
       let e = ap (λ (x : Answer). x .card) (accepted-answer q name r basic entry next a) in
-      read-written (answerOf q name r) (answer-fits q name r o) 20 (λ c. rw e w)
+      read-written (answerOf q name r) (answer-fits q name r o) 20 (λ c. rw e w) ∙ accepted-placeless q name r n
 
   -- filing it never gives 17
   pub never-17 : (clock : Clock) (s : List ℕ) → filedOf clock s (slipOf (answerOf q name r)) ≡ Refused 17 → ⊥

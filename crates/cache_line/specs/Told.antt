@@ -6,7 +6,7 @@ use mathlib.Core.Bool.{cond}
 use mathlib.Core.List.{List}
 use lib.Dec.{ltb}
 use Rattle.answer.specs.declared.Card.{Card}
-use Rattle.answer.specs.Verdict.{kindOf, numberOf}
+use Rattle.answer.specs.Verdict.{kindOf, numberOf, saying}
 use Rattle.slip.specs.Slip.{slipOf}
 use Rattle.cache_rules.specs.declared.Asked.{Asked}
 use Rattle.cache_rules.specs.declared.Asked.the-variants.{NotHeld, Says}
@@ -16,7 +16,7 @@ use Rattle.cache_line.specs.Reply.{numbered, acceptedReply}
 -- the slip of an answer about a card; a refusal's number; 256 for a card that is not held
 unfoldable pub askedReply : Asked → Card → List ℕ
 askedReply NotHeld card = numbered 256
-askedReply (Says v) card = cond (ltb (kindOf v) 4) (acceptedReply (slipOf (record { verdict = v; card = card }))) (numbered (numberOf v))
+askedReply (Says v) card = cond (ltb (kindOf v) 4) (acceptedReply (slipOf (saying v card))) (numbered (numberOf v))
 
 unfoldable pub toldReply : Told → List ℕ
 toldReply t = askedReply (t .asked) (t .card)

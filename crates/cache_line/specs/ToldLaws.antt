@@ -76,7 +76,7 @@ module _ (clock : Clock) (c s : List ℕ) where
 
   -- the reply by what is told of what was found
   found-reply : Octets s → (f : Sought) → askFound clock c s ≡ f → foundReply s f ≡ toldReply (toldIn s f)
-  unfolding foundReply toldReply askedReply toldIn told notHeld isSaid refused
+  unfolding foundReply toldReply askedReply toldIn told notHeld isSaid refused slipOf
   found-reply o NotHeld e = refl
   found-reply o (Refused n) e = refl
   found-reply o (At i) e =

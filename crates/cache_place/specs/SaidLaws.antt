@@ -16,7 +16,7 @@ use Rattle.answer.specs.declared.Reason.{Reason}
 use Rattle.answer.specs.declared.Verdict.{Verdict}
 use Rattle.answer.specs.declared.Verdict.the-variants.{Good, Revoked, Unknown, Refused}
 use Rattle.answer.specs.Card.{fieldOk, cardOk}
-use Rattle.answer.specs.Verdict.{refused}
+use Rattle.answer.specs.Verdict.{saying, refused}
 use Rattle.fields.specs.Field.{valueAt, cardIn}
 use Rattle.fields.specs.FieldLaws.{field-there, value-there}
 use Rattle.slip.specs.Numbers.{total, numbersIn}
@@ -46,9 +46,9 @@ none true = refl
 none false = refl
 
 -- a refusal is never said
-said-refusal : (number status : ℕ) (card : Card) → said (record { verdict = Refused number status; card = card }) ≡ false
+said-refusal : (number status : ℕ) (card : Card) → said (saying (Refused number status) card) ≡ false
 unfolding isSaid
-said-refusal number status card = none (slipOk (record { verdict = Refused number status; card = card }))
+said-refusal number status card = none (slipOk (saying (Refused number status) card))
 
 said-refused : said (refused 17 0) ≡ false
 unfolding isSaid refused
@@ -62,15 +62,15 @@ swap false true = refl
 swap false false = refl
 
 module _ (this next : ℕ) (card : Card) where
-  said-good : said (record { verdict = Good this next; card = card }) ≡ cond (cardOk card) (timesOk this next) false
+  said-good : said (saying (Good this next) card) ≡ cond (cardOk card) (timesOk this next) false
   unfolding slipOk cardFits isSaid rowOf rowIn verdictOk
   said-good = swap (timesOk this next) (cardOk card)
 
-  said-unknown : said (record { verdict = Unknown this next; card = card }) ≡ cond (cardOk card) (timesOk this next) false
+  said-unknown : said (saying (Unknown this next) card) ≡ cond (cardOk card) (timesOk this next) false
   unfolding slipOk cardFits isSaid rowOf rowIn verdictOk
   said-unknown = swap (timesOk this next) (cardOk card)
 
-  said-revoked : (at : ℕ) (reason : Reason) → said (record { verdict = Revoked this next at reason; card = card })
+  said-revoked : (at : ℕ) (reason : Reason) → said (saying (Revoked this next at reason) card)
       ≡ cond (cardOk card) (cond (timesOk this next) (cond (leb at lastSecond) (reasonFits reason) false) false) false
   unfolding slipOk cardFits isSaid rowOf rowIn verdictOk
   said-revoked at reason = swap (cond (timesOk this next) (cond (leb at lastSecond) (reasonFits reason) false) false) (cardOk card)
@@ -89,7 +89,7 @@ module _ (kind : ℕ) (s : List ℕ) where
   t = kind ∷ s
 
   abbrev answer : Row → Answer
-  answer r = record { verdict = verdictIn 20 r s; card = cardUnder 20 r s }
+  answer r = saying (verdictIn 20 r s) (cardUnder 20 r s)
 
   serial-at : 61 ≤ length s → cardOk (cardIn 20 s) ≡ serialFits t
   unfolding cardIn
@@ -129,7 +129,7 @@ module _ (kind : ℕ) (s : List ℕ) where
   unfolding bodySize total cardUnder
   by-good e =
       by-row goodRow (row-good kind e) refl (λ l. two-times (answer goodRow) (
-      ap (λ (v : Verdict). said (record { verdict = v; card = cardIn 20 s })) (good-at s (omega arith))
+      ap (λ (v : Verdict). said (saying v (cardIn 20 s))) (good-at s (omega arith))
       ∙ said-good (valueAt s 61 8) (valueAt s 69 8) (cardIn 20 s)
       ) (λ z. omega arith) (omega arith))
 
@@ -137,7 +137,7 @@ module _ (kind : ℕ) (s : List ℕ) where
   unfolding bodySize total cardUnder
   by-unknown e =
       by-row unknownRow (row-unknown kind e) refl (λ l. two-times (answer unknownRow) (
-      ap (λ (v : Verdict). said (record { verdict = v; card = cardIn 20 s })) (unknown-at s (omega arith))
+      ap (λ (v : Verdict). said (saying v (cardIn 20 s))) (unknown-at s (omega arith))
       ∙ said-unknown (valueAt s 61 8) (valueAt s 69 8) (cardIn 20 s)
       ) (λ z. omega arith) (omega arith))
 
@@ -145,7 +145,7 @@ module _ (kind : ℕ) (s : List ℕ) where
   unfolding bodySize total cardUnder endFits rulesFit
   by-revoked e =
       by-row revokedRow (row-revoked kind e) refl (λ l.
-      ap (λ (v : Verdict). said (record { verdict = v; card = cardIn 20 s })) (revoked-at s (omega arith))
+      ap (λ (v : Verdict). said (saying v (cardIn 20 s))) (revoked-at s (omega arith))
       ∙ said-revoked (valueAt s 61 8) (valueAt s 69 8) (cardIn 20 s) (valueAt s 77 8) (reasonFrom (getD s 85 0))
       ∙ rw (serial-at (omega arith), times-at (omega arith), value-at 77 (omega arith), eq-eqb kind 2 e))
 
@@ -157,7 +157,7 @@ module _ (kind : ℕ) (s : List ℕ) where
       refusals : (r : Row) (b : Bool) (number status : ℕ) → r .says (numbersIn (r .widths) (drop (cardSize 20 r) s)) ≡ Refused number status
           → said (cond b (answer r) (refused 17 0)) ≡ false
       refusals r true number status e =
-          ap (λ (v : Verdict). said (record { verdict = v; card = cardUnder 20 r s })) e ∙ said-refusal number status (cardUnder 20 r s)
+          ap (λ (v : Verdict). said (saying v (cardUnder 20 r s))) e ∙ said-refusal number status (cardUnder 20 r s)
       refusals r false number status e = said-refused
 
       go : (d : Bool) → eqb kind 4 ≡ d → said (parsedAs 20 (rowOf kind) s) ≡ slipSaid t

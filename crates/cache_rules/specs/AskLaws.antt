@@ -14,7 +14,7 @@ use Rattle.answer.specs.declared.Card.{Card}
 use Rattle.answer.specs.declared.Answer.{Answer}
 use Rattle.answer.specs.Card.{cardOk}
 use Rattle.answer.specs.CardLaws.{field-exactly}
-use Rattle.answer.specs.Verdict.{kindOf, numberOf, refused}
+use Rattle.answer.specs.Verdict.{kindOf, numberOf, withoutPlace, refused}
 use Rattle.answer.specs.VerdictLaws.{refused-kind, refused-number}
 use Rattle.fields.specs.Field.{cardIn}
 use Rattle.slip.specs.Slip.{cardOctets, Sized}
@@ -38,7 +38,8 @@ pub told-card : (a b : Answer) → told a ≡ told b → a .card ≡ b .card
 unfolding told
 told-card a b e = ap (λ (x : Told). x .card) e
 
-pub told-same : (a b : Answer) → told a ≡ told b → a ≡ b
+-- a place is not told
+pub told-same : (a b : Answer) → told a ≡ told b → withoutPlace a ≡ withoutPlace b
 told-same a b e = rw (told-verdict a b e, told-card a b e)
 
 pub told-number : (m n : ℕ) → told (refused m 0) ≡ told (refused n 0) → m ≡ n

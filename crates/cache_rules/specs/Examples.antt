@@ -9,7 +9,7 @@ use lib.ListN.{replicate}
 use Rattle.freshness.specs.Fresh.{freshOf}
 use Rattle.answer.specs.declared.Card.{Card}
 use Rattle.answer.specs.declared.Verdict.the-variants.{Good}
-use Rattle.answer.specs.Verdict.{refused}
+use Rattle.answer.specs.Verdict.{saying, refused}
 use Rattle.slip.specs.Table.{sizeOf}
 use Rattle.slip.specs.Slip.{slipOf}
 use Rattle.slip.specs.Examples as slip
@@ -35,7 +35,7 @@ clock now tolerance = record { now = now; tolerance = tolerance }
 
 -- the slip of a good card, from one time to another
 abbrev good : ℕ → ℕ → ℕ → List ℕ
-good n this next = slipOf (record { verdict = Good this next; card = card n })
+good n this next = slipOf (saying (Good this next) (card n))
 
 -- 64 empty places; two places, each with one slip, and 62 empty ones
 abbrev empty : List ℕ
@@ -119,7 +119,7 @@ behind = refl
 
 -- ---- asking
 
-told-good : askOf (clock 200 0) (card 0x11) one ≡ told (record { verdict = Good 100 200; card = card 0x11 })
+told-good : askOf (clock 200 0) (card 0x11) one ≡ told (saying (Good 100 200) (card 0x11))
 unfolding cacheComputes
 told-good = refl
 

@@ -14,7 +14,7 @@ use Rattle.octets.specs.OctetsLaws.{octets-take}
 use Rattle.answer.specs.declared.Answer.{Answer}
 use Rattle.answer.specs.Card.{allZero}
 use Rattle.answer.specs.CardLaws.{zero-true}
-use Rattle.answer.specs.Verdict.{kindOf}
+use Rattle.answer.specs.Verdict.{kindOf, withoutPlace}
 use Rattle.slip.specs.RulesLaws.{both}
 use Rattle.slip.specs.Table.{rowIn, rowOf}
 use Rattle.slip.specs.Slip.{cardOctets, slipOf, slipOk}
@@ -81,7 +81,7 @@ unfolding isSaid
 slip-exactly t o = (
   λ h. (saysOf t, said-kind (saysOf t) h, slip-back t o h .0, read-sized t, slip-back t o h .1),
   λ (a, k, ok, w, e).
-      let r : saysOf t ≡ a = ap saysOf (sym e) ∙ read-written a ok 20 (λ c. w) in
+      let r : saysOf t ≡ withoutPlace a = ap saysOf (sym e) ∙ read-written a ok 20 (λ c. w) in
       rw r (lt-ltb (kindOf (a .verdict)) 4 k),
 )
 

@@ -18,7 +18,7 @@ use Rattle.answer.specs.declared.Verdict.{Verdict}
 use Rattle.answer.specs.declared.Verdict.the-variants.{Good, Revoked, Unknown, Refused}
 use Rattle.answer.specs.Card.{emptyCard, allZero}
 use Rattle.answer.specs.CardLaws.{zero-replicate}
-use Rattle.answer.specs.Verdict.{kindOf, valuesOf, refused}
+use Rattle.answer.specs.Verdict.{kindOf, valuesOf, saying, refused}
 use Rattle.answer.specs.VerdictLaws.{refused-kind}
 use Rattle.fields.specs.Field.{cardIn}
 use Rattle.fields.specs.FieldLaws.{field-length}
@@ -51,7 +51,7 @@ parsed-sized [] = empty-sized
 parsed-sized (kind ∷ s) = go (eqb (length s) (bodySize 20 (rowOf kind)))
   where
     go : (b : Bool)
-        → Sized 20 (cond b (record { verdict = verdictIn 20 (rowOf kind) s; card = cardUnder 20 (rowOf kind) s }) (refused 17 0) .card)
+        → Sized 20 (cond b (saying (verdictIn 20 (rowOf kind) s) (cardUnder 20 (rowOf kind) s)) (refused 17 0) .card)
     go true = under-sized (rowOf kind) s
     go false = empty-sized
 

@@ -1,6 +1,6 @@
 -- The functions of include/desk.h, and the two under the check and the program: each meets its contract, and its contract tells
 -- what it returns and what it writes.
--- desk-request, desk-refusal, desk-signed, desk-algorithm, desk-signature, desk-certificates, desk-check, desk-slip,
+-- desk-request, desk-refusal, desk-misfit, desk-signed, desk-algorithm, desk-signature, desk-certificates, desk-check, desk-slip,
 -- desk-entry, desk-cache-file, desk-cache-ask, slip-for, each with -met and -tells; line-for's are in Writers.
 -- What -met and -tells say, and Tells, are in Functions. In C a slice is a pointer and a length; here it is one of the arguments
 -- `a`, counted `a .0`, `a .1 .0`, `a .1 .1 .0`, and what is written is among the parameters at exit `e`, counted likewise.
@@ -14,7 +14,7 @@ use Rattle.read_response.specs.Refusals.{refusalOf}
 use Rattle.show.specs.Shown.{entryOf}
 use Rattle.slip.specs.Slip.{slipOf, readOf}
 use Rattle.desk_question.specs.Asked.{asked}
-use Rattle.desk_c.specs.Places.{signedSpan, algorithmIn, signatureSpan, certificatesIn, entryNumber, entrySpan}
+use Rattle.desk_c.specs.Places.{signedSpan, algorithmIn, signatureSpan, certificatesIn, entryNumber, entrySpan, placeOver}
 use Rattle.desk_c.specs.Papers.{slipNumber, requestSize, requestIn}
 use Rattle.cache_rules.specs.Cache.{filedOf, bufferOf}
 use Rattle.cache_rules.specs.Numbers.{filedNumber, filedCount}
@@ -26,6 +26,9 @@ use Rattle.desk_c.proofs.desk_request.Met as desk-request-theorem
 use Rattle.desk_c.proofs.desk_refusal.Reads as desk-refusal
 use Rattle.desk_c.proofs.desk_refusal.Statement as desk-refusal-contract
 use Rattle.desk_c.proofs.desk_refusal.Met as desk-refusal-theorem
+use Rattle.desk_c.proofs.desk_misfit.Reads as desk-misfit
+use Rattle.desk_c.proofs.desk_misfit.Statement as desk-misfit-contract
+use Rattle.desk_c.proofs.desk_misfit.Met as desk-misfit-theorem
 use Rattle.desk_c.proofs.desk_signed.Reads as desk-signed
 use Rattle.desk_c.proofs.desk_signed.Statement as desk-signed-contract
 use Rattle.desk_c.proofs.desk_signed.Met as desk-signed-theorem
@@ -73,6 +76,15 @@ desk-refusal-met = desk-refusal-theorem.met
 pub desk-refusal-tells : Tells desk-refusal.Learnt (λ k a z e.
     (z ≡ refusalOf (judgedOf (now (a .0))) .number) × (now (e .1 .0) ≡ refusalOf (judgedOf (now (a .0))) .status))
 desk-refusal-tells k a z e p = (p .0, p .1)
+
+-- ── desk_misfit(response, place): the same number, and the place, written with 3 alone ──
+pub desk-misfit-met : {M : Type 1} → desk-misfit-contract.statement M
+desk-misfit-met = desk-misfit-theorem.met
+
+pub desk-misfit-tells : Tells desk-misfit.Learnt (λ k a z e.
+    (z ≡ refusalOf (judgedOf (now (a .0))) .number)
+    × (now (e .1 .0) ≡ placeOver (refusalOf (judgedOf (now (a .0))) .place) (now (a .1 .0))))
+desk-misfit-tells k a z e p = (p .0, p .1)
 
 -- ── desk_signed(response, from, len): the refusal or 0, and where the signed part is ──
 pub desk-signed-met : {M : Type 1} → desk-signed-contract.statement M

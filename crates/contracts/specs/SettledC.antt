@@ -1,6 +1,6 @@
 -- Settled contracts of the functions for C.
 -- One theorem for each, desk-c-FUNCTION-settled; of what is written through a pointer, -buffer (of a part, where it starts; of
--- desk_refusal, the status) and -length say the same; of desk_cache_file, -buffer is of the cache and -places of the count.
+-- desk_refusal, the status, of desk_misfit the place) and -length say the same; of desk_cache_file, -buffer is of the cache and -places of the count.
 -- What it is to be settled is in Settled. Assumes nothing.
 use denote.Ref.{now}
 use Rattle.contracts.specs.Settled.{Settled, settled, Settles, settles}
@@ -8,6 +8,7 @@ use Rattle.desk_c.proofs.desk_check.Reads as desk-c-desk-check
 use Rattle.desk_c.proofs.desk_slip.Reads as desk-c-desk-slip
 use Rattle.desk_c.proofs.desk_request.Reads as desk-c-desk-request
 use Rattle.desk_c.proofs.desk_refusal.Reads as desk-c-desk-refusal
+use Rattle.desk_c.proofs.desk_misfit.Reads as desk-c-desk-misfit
 use Rattle.desk_c.proofs.desk_signed.Reads as desk-c-desk-signed
 use Rattle.desk_c.proofs.desk_algorithm.Reads as desk-c-desk-algorithm
 use Rattle.desk_c.proofs.desk_signature.Reads as desk-c-desk-signature
@@ -38,6 +39,12 @@ desk-c-desk-refusal-settled = settled _ _ _ (λ k a. tt) (λ k a z e p. p .0)
 
 pub desk-c-desk-refusal-buffer : Settles desk-c-desk-refusal.Asked desk-c-desk-refusal.Learnt (λ k z e. now (e .1 .0))
 desk-c-desk-refusal-buffer = settles _ _ (λ k z e. now (e .1 .0)) _ (λ k a. tt) (λ k a z e p. p .1)
+
+pub desk-c-desk-misfit-settled : Settled desk-c-desk-misfit.Asked desk-c-desk-misfit.Learnt
+desk-c-desk-misfit-settled = settled _ _ _ (λ k a. tt) (λ k a z e p. p .0)
+
+pub desk-c-desk-misfit-buffer : Settles desk-c-desk-misfit.Asked desk-c-desk-misfit.Learnt (λ k z e. now (e .1 .0))
+desk-c-desk-misfit-buffer = settles _ _ (λ k z e. now (e .1 .0)) _ (λ k a. tt) (λ k a z e p. p .1)
 
 -- ── parts of a response ──
 pub desk-c-desk-signed-settled : Settled desk-c-desk-signed.Asked desk-c-desk-signed.Learnt

@@ -23,6 +23,7 @@ use Rattle.slip_read.proofs.read_slip.Reads as slip-read-read-slip
 use Rattle.hex.proofs.hex.Reads as hex-hex
 use Rattle.hex.proofs.hex_line.Reads as hex-hex-line
 use Rattle.desk_intake.proofs.keep.Reads as desk-intake-keep
+use Rattle.desk_case.proofs.ask.Reads as desk-case-ask
 use Rattle.desk_case.proofs.slip_for.Reads as desk-case-slip-for
 use Rattle.desk_line.proofs.line_for.Reads as desk-line-line-for
 
@@ -107,6 +108,9 @@ pub desk-intake-keep-buffer : Settles desk-intake-keep.Asked desk-intake-keep.Le
 desk-intake-keep-buffer = settles _ _ (λ k z e. now (e .0)) _ (λ k a. tt) (λ k a z e p. p .1)
 
 -- ── crate desk_case ──
+pub desk-case-ask-settled : Settled desk-case-ask.Asked desk-case-ask.Learnt
+desk-case-ask-settled = settled _ _ _ (λ k a. tt) (λ k a z e p. p)
+
 pub desk-case-slip-for-settled : Settled desk-case-slip-for.Asked desk-case-slip-for.Learnt
 desk-case-slip-for-settled = settled _ _ _ (λ k a. tt) (λ k a z e p. p .0)
 

@@ -10,6 +10,7 @@ use Rattle.answer.proofs.card_fits.Reads as answer-card-fits
 use Rattle.answer.proofs.field_fits.Reads as answer-field-fits
 use Rattle.answer.proofs.same_card.Reads as answer-same-card
 use Rattle.answer.proofs.refuse.Reads as answer-refuse
+use Rattle.answer.proofs.refuse_at.Reads as answer-refuse-at
 use Rattle.rule_matching.proofs.is_for.Reads as rule-matching-is-for
 use Rattle.rule_matching.proofs.serial_size.Reads as rule-matching-serial-size
 use Rattle.rule_search.proofs.search.Reads as rule-search-search
@@ -37,6 +38,9 @@ answer-same-card-settled = settled _ _ _ (λ k a. tt) (λ k a z e p. p)
 
 pub answer-refuse-settled : Settled answer-refuse.Asked answer-refuse.Learnt
 answer-refuse-settled = settled _ _ _ (λ k a. tt) (λ k a z e p. p)
+
+pub answer-refuse-at-settled : Settled answer-refuse-at.Asked answer-refuse-at.Learnt
+answer-refuse-at-settled = settled _ _ _ (λ k a. tt) (λ k a z e p. p)
 
 -- ── crate rule_matching ──
 pub rule-matching-is-for-settled : Settled rule-matching-is-for.Asked rule-matching-is-for.Learnt

@@ -8,6 +8,7 @@ use lib.ListN.{length}
 use borrow.Author.Tests.{eq-eqb, ne-eqb}
 use Rattle.octets.specs.LentLaws.{Known, known-octets}
 use Rattle.answer.specs.declared.Card.{Card}
+use Rattle.answer.specs.Verdict.{withoutPlace}
 use Rattle.fields.specs.Field.{cardIn}
 use Rattle.fields.specs.Output.{outputOf, outputIn}
 use Rattle.fields.specs.declared.Output.{Output}
@@ -41,6 +42,6 @@ module _ (card out : List ℕ) where
     card-buffer last p = p ∙ ap (λ (x : Card). outputIn (requestRefusal x) out (requestOf x)) e ∙ sym (rw (eq-eqb (length card) 61 h))
 
 -- ── the check ──
--- the slip of the answer reads as the answer: by its type the response is octets
-pub check-read : (q r : List ℕ) → Known r → readOf 20 (slipOf (asked q r)) ≡ asked q r
+-- the slip of the answer reads as the answer without its place: by its type the response is octets
+pub check-read : (q r : List ℕ) → Known r → readOf 20 (slipOf (asked q r)) ≡ withoutPlace (asked q r)
 check-read q r known = read-written (asked q r) (fits-slip q r (known-octets r known)) 20 (λ c. asked-sized q r)

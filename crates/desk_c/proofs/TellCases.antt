@@ -1,15 +1,18 @@
 -- What is told of a value is told of its equal: the numbers that the C functions return and write through a pointer.
--- told; told-of and told-by, by way of what g makes of the value; ask-part, of what is found; held-part, of the certificates.
+-- told; told-of and told-by, by way of what g makes of the value; ask-part, of what is found; held-part, of the certificates;
+-- place-put and place-kept, of a place that may be absent.
 -- Assumes nothing.
 use Prim.Native.Nat.{ℕ}
 use mathlib.Core.Path.{_≡_, ap, _∙_}
 use mathlib.Core.List.{List}
+use Rattle.answer.specs.declared.Place.the-variants as place
+use Rattle.read_response.specs.declared.Refusal.{Refusal}
 use Rattle.read_response.specs.declared.Span.{Span}
 use Rattle.read_response.specs.declared.Parts.{Parts}
 use Rattle.read_response.specs.declared.Judged.{Judged}
 use Rattle.show.specs.Parts.{shownParts}
 use Rattle.cache_ask.specs.declared.Sought.{Sought}
-use Rattle.desk_c.specs.Places.{heldIn, certificatesIn}
+use Rattle.desk_c.specs.Places.{heldIn, certificatesIn, placeOver}
 use Rattle.desk_c.specs.Caches.{foundSpan}
 
 pub told : {A : Type 0} (f : A → ℕ) (x y : A) → x ≡ y → (n : ℕ) → n ≡ f x → n ≡ f y
@@ -29,3 +32,10 @@ module _ (f : Span → ℕ) (s : List ℕ) where
   pub held-part : (x y : Judged) → x ≡ y → (p : Parts) → p ≡ shownParts x → (d : Span) → d ≡ heldIn s (p .certificates) → (n : ℕ) → n ≡ f d
       → n ≡ f (certificatesIn s y)
   held-part x y e p q d h n i = i ∙ told-of (λ (j : Parts). heldIn s (j .certificates)) f p (shownParts y) (q ∙ ap shownParts e) d h
+
+module _ (r s : Refusal) (e : r ≡ s) (n z : ℕ) where
+  pub place-put : (p : ℕ) → r .place ≡ place.At p → z ≡ p → z ≡ placeOver (s .place) n
+  place-put p f i = i ∙ rw (← e, f)
+
+  pub place-kept : r .place ≡ place.Absent → z ≡ n → z ≡ placeOver (s .place) n
+  place-kept f i = i ∙ rw (← e, f)

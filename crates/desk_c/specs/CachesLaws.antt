@@ -100,7 +100,7 @@ module _ (clock : Clock) (c s : List ℕ) where
 
     -- with an answer, the octets at its place are its slip
     pub ask-slip : (a : Answer) → kindOf (a .verdict) < 4 → asked ≡ told a → octetsIn s (foundSpan s (askFound clock c s)) ≡ slipOf a
-    unfolding foundSpan slipSpan
+    unfolding foundSpan slipSpan slipOf
     ask-slip a k e =
         let zero : foundNumber (askFound clock c s) ≡ 0 = ask-exactly .1 .1 (a, k, e) in
         three (octetsIn s (foundSpan s (askFound clock c s)) ≡ slipOf a)

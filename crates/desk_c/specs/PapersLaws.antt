@@ -14,7 +14,7 @@ use borrow.Author.Tests.{eqb-true, eq-eqb, ne-eqb}
 use Rattle.octets.specs.Octets.{Octets}
 use Rattle.octets.specs.SameLaws.{impossible}
 use Rattle.answer.specs.Card.{emptyCard, cardOk}
-use Rattle.answer.specs.Verdict.{refused}
+use Rattle.answer.specs.Verdict.{saying, withoutPlace, refused}
 use Rattle.answer.specs.declared.Answer.{Answer}
 use Rattle.answer.specs.declared.Verdict.{Verdict}
 use Rattle.answer.specs.declared.Verdict.the-variants.{Good, Revoked, Unknown, Refused}
@@ -48,7 +48,7 @@ as-sized : (r : Row) (s : List ℕ) → Sized 20 (parsedAs 20 r s .card)
 unfolding parsedAs refused
 as-sized r s = go (eqb (length s) (bodySize 20 r))
   where
-    go : (t : Bool) → Sized 20 (cond t (record { verdict = verdictIn 20 r s; card = cardUnder 20 r s }) (refused 17 0) .card)
+    go : (t : Bool) → Sized 20 (cond t (saying (verdictIn 20 r s) (cardUnder 20 r s)) (refused 17 0) .card)
     go true = under-sized r s
     go false = empty-sized
 
@@ -100,7 +100,7 @@ module _ (s : List ℕ) (o : Octets s) where
         let w = written-read 20 s o (λ (z : readOf 20 s ≡ refused 17 0). absurd (omega (arith, ap (λ (a : Answer). slipNumber (a .verdict)) z, number-refused))) in
         (readOf 20 s, w .0, λ c. read-sized s, w .1),
     λ (a, ok, h, i).
-        let r : readOf 20 s ≡ a = ap (readOf 20) (sym i) ∙ read-written a ok 20 h in
+        let r : readOf 20 s ≡ withoutPlace a = ap (readOf 20) (sym i) ∙ read-written a ok 20 h in
         ap (λ (x : Answer). slipNumber (x .verdict)) r ∙ number-kept (a .verdict) (slip-parts a ok .0),
   )
 

@@ -1,5 +1,6 @@
--- What the C functions that show a part answer: a number, and where the part is.
--- signedSpan, algorithmIn, signatureSpan; headerSize, behindHeader, lastBefore, heldIn, certificatesIn; entryNumber, entrySpan.
+-- What the C functions that show a part answer: a number, and where the part is; and what desk_misfit writes.
+-- signedSpan, algorithmIn, signatureSpan; headerSize, behindHeader, lastBefore, heldIn, certificatesIn; entryNumber, entrySpan;
+-- placeOver.
 -- A refusal's part is empty: it starts at 0 and has no octets. So are the certificates where there are none, and the part
 -- past the last entry. The parts are in crate show (Parts). That the octets there are the forms of the reading's parts is in
 -- PlacesLaws, of the signed part and the signature in PartsLaws of crate show.
@@ -12,6 +13,8 @@ use lib.ListN.{length, drop}
 use Rattle.element.specs.Header.{headerOf}
 use Rattle.element.specs.declared.Header.{Header}
 use Rattle.element.specs.declared.Header.the-variants as header
+use Rattle.answer.specs.declared.Place.{Place}
+use Rattle.answer.specs.declared.Place.the-variants as place
 use Rattle.read_response.specs.declared.Span.{Span}
 use Rattle.read_response.specs.declared.Judged.{Judged}
 use Rattle.show.specs.Parts.{emptySpan, shownParts}
@@ -56,10 +59,15 @@ certificatesIn s j = heldIn s (shownParts j .certificates)
 unfoldable pub entryNumber : Entry → ℕ
 entryNumber (At start len) = 0
 entryNumber End = 0
-entryNumber (Refused number status) = number
+entryNumber (Refused number status place) = number
 
 -- where an entry is
 unfoldable pub entrySpan : Entry → Span
 entrySpan (At start len) = record { start = start; len = len }
 entrySpan End = emptySpan
-entrySpan (Refused number status) = emptySpan
+entrySpan (Refused number status place) = emptySpan
+
+-- a place, written over a number; without one the number stays
+abbrev pub placeOver : Place → ℕ → ℕ
+placeOver (place.At p) n = p
+placeOver place.Absent n = n

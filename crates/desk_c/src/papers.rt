@@ -4,6 +4,7 @@ use fields::Output;
 ghost use mathlib.Core.Path.{_≡_};
 ghost use lib.ListN.{length};
 ghost use Rattle.octets.specs.Buffer.{putIn, putSize};
+ghost use Rattle.answer.specs.Verdict.{withoutPlace};
 ghost use Rattle.slip.specs.Slip.{slipOf, readOf};
 ghost use Rattle.desk_question.specs.Asked.{asked};
 ghost use Rattle.desk_c.specs.Papers.{slipNumber, sizeOr0, requestSize, requestIn};
@@ -14,7 +15,7 @@ ghost use Rattle.desk_c.specs.Papers.{slipNumber, sizeOr0, requestSize, 
 pub extern "C" fn desk_check(question: &[u8], response: &[u8], slip: &mut [u8]) -> usize
     ensures { λ r. ⌜ r ≡ putSize (now (slip .entry)) (slipOf (asked (now (question .entry)) (now (response .entry)))) ⌝ }
     ensures { λ _. ⌜ now (slip .exit) ≡ putIn (now (slip .entry)) 0 (slipOf (asked (now (question .entry)) (now (response .entry)))) ⌝ }
-    ensures { λ _. ⌜ readOf 20 (slipOf (asked (now (question .entry)) (now (response .entry)))) ≡ asked (now (question .entry)) (now (response .entry)) ⌝ }
+    ensures { λ _. ⌜ readOf 20 (slipOf (asked (now (question .entry)) (now (response .entry)))) ≡ withoutPlace (asked (now (question .entry)) (now (response .entry))) ⌝ }
 {
     desk_case::slip_for(question, response, slip)
 }

@@ -1,4 +1,5 @@
 // A response's refusal, and its parts: where they are in the caller's own octets.
+use answer::Place;
 use element::Header;
 use read_response::Judged;
 use read_response::Span;
@@ -9,7 +10,7 @@ ghost use lib.ListN.{length};
 ghost use Rattle.read_response.specs.Parts.{judgedOf};
 ghost use Rattle.read_response.specs.Refusals.{refusalOf};
 ghost use Rattle.show.specs.Shown.{entryOf};
-ghost use Rattle.desk_c.specs.Places.{signedSpan, algorithmIn, signatureSpan, behindHeader, heldIn, certificatesIn, entryNumber, entrySpan};
+ghost use Rattle.desk_c.specs.Places.{signedSpan, algorithmIn, signatureSpan, behindHeader, heldIn, certificatesIn, entryNumber, entrySpan, placeOver};
 
 // The refusal of a response before any question is asked: 0 or 2 to 5, and the status that goes with 4.
 #[no_mangle]
@@ -19,6 +20,20 @@ pub extern "C" fn desk_refusal(response: &[u8], status: &mut usize) -> usize
 {
     let refusal = read_response::refuse(response);
     *status = refusal.status as usize;
+    refusal.number as usize
+}
+
+// The same refusal, and the place that goes with 3: it is written with 3 alone.
+#[no_mangle]
+pub extern "C" fn desk_misfit(response: &[u8], place: &mut usize) -> usize
+    ensures { λ r. ⌜ r ≡ refusalOf (judgedOf (now (response .entry))) .number ⌝ }
+    ensures { λ _. ⌜ now (place .exit) ≡ placeOver (refusalOf (judgedOf (now (response .entry))) .place) (now (place .entry)) ⌝ }
+{
+    let refusal = read_response::refuse(response);
+    let misfit = refusal.place;
+    if let Place::At(p) = misfit {
+        *place = p;
+    }
     refusal.number as usize
 }
 

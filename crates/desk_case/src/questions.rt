@@ -57,7 +57,7 @@ fn ask_kept(question: &[u8], response: &[u8]) -> Answer
 }
 
 // What a response says for a question, both as octets.
-pub(crate) fn ask(question: &[u8], response: &[u8]) -> Answer
+pub fn ask(question: &[u8], response: &[u8]) -> Answer
     ensures { λ r. ⌜ r ≡ asked (now (question .entry)) (now (response .entry)) ⌝ }
 {
     if !form_fits(question) {

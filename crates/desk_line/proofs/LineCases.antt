@@ -16,6 +16,7 @@ use Rattle.octets.specs.Buffer.{putIn}
 use Rattle.octets.specs.BufferLaws.{put-in-room, put-in-length}
 use Rattle.octets.specs.LentLaws.{Known, known-octets}
 use Rattle.slip.specs.Slip.{slipOf, readOf}
+use Rattle.answer.specs.Verdict.{withoutPlace}
 use Rattle.slip.specs.SlipLaws.{read-written}
 use Rattle.hex.specs.Hex.{hexLine}
 use Rattle.desk_question.specs.Asked.{asked, deskOf}
@@ -82,7 +83,7 @@ module _ (s : List ℕ) (n : ℕ) (e : n ≡ cond (ltb 87 (length (slipOf (deskO
 
 -- ---- the answer
 
--- the slip of the answer reads as the answer: by its type the input is octets
-pub line-read : (s : List ℕ) → Known s → readOf 20 (slipOf (deskOf s)) ≡ deskOf s
+-- the slip of the answer reads as the answer without its place: by its type the input is octets
+pub line-read : (s : List ℕ) → Known s → readOf 20 (slipOf (deskOf s)) ≡ withoutPlace (deskOf s)
 unfolding deskOf
 line-read s known = read-written (deskOf s) (desk-fits s (known-octets s known)) 20 (λ c. asked-sized (take 353 s) (drop 353 s))

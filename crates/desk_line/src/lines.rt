@@ -2,6 +2,7 @@
 ghost use mathlib.Core.Path.{_≡_};
 ghost use lib.ListN.{length};
 ghost use Rattle.octets.specs.Buffer.{putIn, putSize};
+ghost use Rattle.answer.specs.Verdict.{withoutPlace};
 ghost use Rattle.slip.specs.Slip.{slipOf, readOf};
 ghost use Rattle.desk_question.specs.Asked.{deskOf};
 ghost use Rattle.desk_question.specs.Line.{questionEnd, lineOf};
@@ -30,7 +31,7 @@ fn desk_slip(input: &[u8], out: &mut [u8]) -> usize
 pub fn line_for(input: &[u8], out: &mut [u8]) -> usize
     ensures { λ r. ⌜ r ≡ putSize (now (out .entry)) (lineOf (now (input .entry))) ⌝ }
     ensures { λ _. ⌜ now (out .exit) ≡ putIn (now (out .entry)) 0 (lineOf (now (input .entry))) ⌝ }
-    ensures { λ _. ⌜ readOf 20 (slipOf (deskOf (now (input .entry)))) ≡ deskOf (now (input .entry)) ⌝ }
+    ensures { λ _. ⌜ readOf 20 (slipOf (deskOf (now (input .entry)))) ≡ withoutPlace (deskOf (now (input .entry))) ⌝ }
 {
     let mut slip = [0u8; 87];
     let size = desk_slip(input, &mut slip);

@@ -11,7 +11,8 @@ use lib.ListN.{replicate}
 use Rattle.octets.specs.Buffer.{roomFor}
 use Rattle.octets.specs.Number.{valueOf, numberAt}
 use Rattle.answer.specs.Card.{allZero}
-use Rattle.answer.specs.Verdict.{refused}
+use Rattle.answer.specs.Verdict.{refusedAt, refused}
+use Rattle.answer.specs.declared.Place.the-variants as place
 use Rattle.fields.specs.Field.{fieldAt, valueAt, cardIn}
 use Rattle.layout.specs.Opened.{opened}
 use Rattle.layout.specs.Read.{unfit, reading}
@@ -70,8 +71,8 @@ nothing-read : reading [] ≡ unfit 0
 unfolding opened
 nothing-read = refl
 
--- no response: it does not fit
-pub case-alone : deskOf case ≡ refused 3 0
+-- no response: it does not fit, at its start
+pub case-alone : deskOf case ≡ refusedAt 3 0 (place.At 0)
 unfolding deskOf asked checked
 case-alone = rw (case-fits, case-question, case-name, nothing-read)
 

@@ -24,7 +24,7 @@ use Rattle.answer.specs.declared.Verdict.the-variants.{Refused}
 use Rattle.answer.specs.declared.Answer.{Answer}
 use Rattle.answer.specs.Card.{emptyCard, cardOk}
 use Rattle.answer.specs.CardLaws.{same-card-refl}
-use Rattle.answer.specs.Verdict.{kindOf, refused}
+use Rattle.answer.specs.Verdict.{kindOf, saying, refused}
 use Rattle.rules.specs.declared.Question.{Question}
 use Rattle.rules.specs.Order.{entriesFor}
 use Rattle.rules.specs.Ruling.{reasonIn, said, answerOf}
@@ -107,7 +107,7 @@ refused-carded n status = refl
 -- ---- an answer
 
 said-slip : (x : Status) (this next : ℕ) (card : Card) → verdictOk (said x this next) ≡ true → cardOk card ≡ true
-    → slipOk (record { verdict = said x this next; card = card }) ≡ true
+    → slipOk (saying (said x this next) card) ≡ true
 unfolding slipOk cardFits
 said-slip x this next card v c = rw (v, said-carded x this next) c
 

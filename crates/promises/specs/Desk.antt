@@ -13,7 +13,7 @@ use mathlib.Core.List.{List, [], _∷_, _++_}
 use lib.ListN.{length, take, drop, replicate}
 use Rattle.octets.specs.Octets.{Octets}
 use Rattle.answer.specs.Card.{allZero}
-use Rattle.answer.specs.Verdict.{refused}
+use Rattle.answer.specs.Verdict.{withoutPlace, refused}
 use Rattle.fields.specs.Field.{fieldAt, valueAt, cardIn}
 use Rattle.rules.specs.Ruling.{answerOf}
 use Rattle.rules.specs.Examples.{failure}
@@ -67,9 +67,9 @@ desk-refuses s = desk.asked-broken (take 353 s) (drop 353 s)
 pub desk-short : (s : List ℕ) → length s < 353 → deskOf s ≡ refused 1 0
 desk-short = desk.desk-short
 
--- every answer can be written as a slip, of at most 87 octets, and is read back from it; of a call, whose octets its types
--- say, without that premise: contracts: ReadBack
-pub desk-slip : (s : List ℕ) → Octets s → (slipOk (deskOf s) ≡ true) × (length (slipOf (deskOf s)) ≤ 87) × (readOf 20 (slipOf (deskOf s)) ≡ deskOf s)
+-- every answer can be written as a slip, of at most 87 octets, and is read back from it without its place; of a call, whose
+-- octets its types say, without that premise: contracts: ReadBack
+pub desk-slip : (s : List ℕ) → Octets s → (slipOk (deskOf s) ≡ true) × (length (slipOf (deskOf s)) ≤ 87) × (readOf 20 (slipOf (deskOf s)) ≡ withoutPlace (deskOf s))
 unfolding deskOf
 desk-slip s o = (desk-fits s o, desk-most s, read-written (deskOf s) (desk-fits s o) 20 (λ c. asked-sized (take 353 s) (drop 353 s)))
 

@@ -26,7 +26,8 @@ use Rattle.read_response.specs.Parts.{judgedOf}
 use Rattle.read_response.specs.OutcomeLaws as kinds
 use Rattle.read_response.specs.declared.Judged.{Judged}
 use Rattle.read_response.specs.declared.Judged.the-variants as judged
-use Rattle.answer.specs.Verdict.{refused}
+use Rattle.answer.specs.Verdict.{refusedAt, refused}
+use Rattle.answer.specs.declared.Place.the-variants.{At}
 use Rattle.rules.specs.declared.Question.{Question}
 use Rattle.rules.specs.Accepted.{InRange}
 use Rattle.rules.specs.AcceptedLaws.{range-exactly}
@@ -101,16 +102,17 @@ module _ (q : Question) (name s : List ℕ) (range : InRange q name) where
   two-given = ruling.two-exactly q name s (range-exactly q name .1 range)
 
   module _ (o : Octets s) where
-    -- 3 exactly if it has at most that many and is no error response, of no other type, and not basic
-    pub three-given : answerOf q name s ≡ refused 3 0 ↔ (length s ≤ 16384) × (IsError s → ⊥) × (IsOtherType s → ⊥) × (IsBasic s → ⊥)
+    -- 3, with a place, exactly if it has at most that many and is no error response, of no other type, and not basic; which
+    -- place is in Misfits
+    pub three-given : ((p : ℕ) × (answerOf q name s ≡ refusedAt 3 0 (At p))) ↔ (length s ≤ 16384) × (IsError s → ⊥) × (IsOtherType s → ⊥) × (IsBasic s → ⊥)
     three-given = (
-      λ e.
-          let (le, (p, r)) = ruling.three-exactly q name s (range-exactly q name .1 range) .0 e in
+      λ (p, e).
+          let (le, r) = ruling.three-exactly q name s (range-exactly q name .1 range) p .0 e in
           unfit-exactly s o .0 (p, kinds.unfit-judged s p .1 (le, r)),
       λ h.
           let (p, e) = unfit-exactly s o .1 h in
           let (le, r) = kinds.unfit-judged s p .0 e in
-          ruling.three-exactly q name s (range-exactly q name .1 range) .1 (le, (p, r)),
+          (p, ruling.three-exactly q name s (range-exactly q name .1 range) p .1 (le, r)),
     )
 
     -- 5 exactly if it has at most that many and is of another type

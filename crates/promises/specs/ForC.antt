@@ -126,7 +126,7 @@ entry-part s k = go (entryOf s k)
     go : (x : Entry) → octetsIn s (entrySpan x) ≡ partIn s x
     go (entry.At start len) = refl
     go entry.End = refl
-    go (entry.Refused number status) = refl
+    go (entry.Refused number status place) = refl
 
 module _ (s : List ℕ) (o : Octets s) (k n from len : ℕ) (i : n ≡ entryNumber (entryOf s k))
     (f : from ≡ entrySpan (entryOf s k) .start) (l : len ≡ entrySpan (entryOf s k) .len) where

@@ -1,6 +1,8 @@
 pub mod OneReading
 pub mod Envelopes
 pub mod Version
+pub mod Misfits
+pub mod MisfitsTold
 pub mod Answers
 pub mod Refusals
 pub mod Rows

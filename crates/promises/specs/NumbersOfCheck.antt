@@ -1,11 +1,13 @@
 -- Document 01's number and values for each case of each enum that judging a response and the check's parts answer with.
--- judgedTold, entryTold, freshnessTold, strangeTold, foundTold, openedTold; judged-told, freshness-told.
+-- judgedTold, entryTold, freshnessTold, strangeTold, foundTold, openedTold, openedPlace; judged-told, freshness-told.
 -- Those of writers and readers of parts are in Numbers, those of a verdict in answer: Verdict (kindOf, valuesOf, numberOf,
 -- statusOf), those of filing and asking in cache_rules: Numbers.
 -- Assumes nothing.
 use Prim.Native.Nat.{ℕ}
 use mathlib.Core.Path.{_≡_, refl}
 use mathlib.Core.List.{List, [], _∷_, _++_}
+use Rattle.answer.specs.declared.Place.{Place}
+use Rattle.answer.specs.declared.Place.the-variants as place
 use Rattle.read_critical.specs.declared.Strange.{Strange}
 use Rattle.read_critical.specs.declared.Strange.the-variants as strange
 use Rattle.read_response.specs.Refusals as response
@@ -53,7 +55,7 @@ judged-told judged.OtherType = (refl, refl)
 abbrev pub entryTold : Entry → Told
 entryTold (entry.At start len) = given (start ∷ len ∷ [])
 entryTold entry.End = given []
-entryTold (entry.Refused number status) = record { number = number; status = status; values = [] }
+entryTold (entry.Refused number status place) = record { number = number; status = status; values = [] }
 
 -- ── the check ──
 
@@ -86,5 +88,10 @@ foundTold (found.Two first second) = numberAlone 11
 
 -- where the entries of a response that is not refused are; the refusal
 abbrev pub openedTold : Opened → Told
-openedTold (opened.Refused number status) = record { number = number; status = status; values = [] }
+openedTold (opened.Refused number status place) = record { number = number; status = status; values = [] }
 openedTold (opened.Clear start len) = given (start ∷ len ∷ [])
+
+-- the place that goes with a refusal
+abbrev pub openedPlace : Opened → Place
+openedPlace (opened.Refused number status p) = p
+openedPlace (opened.Clear start len) = place.Absent

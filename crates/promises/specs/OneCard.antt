@@ -17,6 +17,7 @@ use Rattle.layout.specs.Read.{reads, reading}
 use Rattle.layout.specs.Sha1.{sha1}
 use Rattle.answer.specs.Card.{serialIn}
 use Rattle.answer.specs.declared.Card.{Card}
+use Rattle.answer.specs.Verdict.{saying}
 use Rattle.rules.specs.declared.Question.{Question}
 use Rattle.rules.specs.Ruling.{said, answerOf}
 use Rattle.rules.specs.Accepted.{Accepted, NoRefusal}
@@ -58,7 +59,7 @@ pub one-entry : (q : Question) (name s : List ℕ) → NoRefusal (answerOf q nam
     → (b : Basic) × (e : Entry) × (next : ℕ)
     × (reading s ≡ reads (basic b))
     × OnlyEntry (q .card) (b .signed .entries) e
-    × (answerOf q name s ≡ record { verdict = said (e .status) (e .thisUpdate) next; card = q .card })
+    × (answerOf q name s ≡ saying (said (e .status) (e .thisUpdate) next) (q .card))
     × (e .nextUpdate ≡ some next)
     × (e .thisUpdate ≤ q .now)
     × (q .now ≤ next + q .tolerance)

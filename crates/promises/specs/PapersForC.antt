@@ -16,7 +16,7 @@ use Rattle.octets.specs.Octets.{Octets}
 use Rattle.octets.specs.Buffer.{putIn, putSize}
 use Rattle.octets.specs.BufferLaws.{put-in-short}
 use Rattle.answer.specs.Card.{cardOk}
-use Rattle.answer.specs.Verdict.{refused}
+use Rattle.answer.specs.Verdict.{withoutPlace, refused}
 use Rattle.answer.specs.declared.Answer.{Answer}
 use Rattle.fields.specs.Field.{cardIn}
 use Rattle.fields.specs.OutputLaws.{first-written}
@@ -58,8 +58,8 @@ module _ (question response slip left : List ℕ) (n : ℕ) (a : Answer) (answer
     λ h. (rw (lt-ltb (length slip) (length (slipOf (asked question response))) h), put-in-short slip 0 (slipOf (asked question response)) (omega arith)),
   )
 
-  -- and the slip is read back as the answer
-  pub check-read : Octets response → (slipOk a ≡ true) × (readOf 20 (slipOf a) ≡ a)
+  -- and the slip is read back as the answer without its place
+  pub check-read : Octets response → (slipOk a ≡ true) × (readOf 20 (slipOf a) ≡ withoutPlace a)
   check-read o =
       rw answer (
         fits-slip question response o,

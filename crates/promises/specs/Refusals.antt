@@ -13,12 +13,13 @@ use lib.Dec.{ltb, eqb}
 use lib.ListN.{replicate}
 use Rattle.octets.specs.Octets.{Octets}
 use Rattle.layout.specs.Reading.{Entry, Basic, failed}
-use Rattle.layout.specs.Read.{reads, reading}
+use Rattle.layout.specs.Read.{reads, unfit, reading}
 use Rattle.layout.specs.Limits.{FailureOk}
 use Rattle.answer.specs.Card.{emptyCard}
 use Rattle.answer.specs.Verdict.{refused}
 use Rattle.answer.specs.declared.Reason.{Reason}
 use Rattle.answer.specs.declared.Verdict.the-variants.{Good, Revoked, Unknown, Refused}
+use Rattle.answer.specs.declared.Place.the-variants.{At, Absent}
 use Rattle.rules.specs.declared.Question.{Question}
 use Rattle.rules.specs.Question.{inRange}
 use Rattle.rules.specs.Signer.{isSigner, inResponse, inEntry, strangeIn}
@@ -57,13 +58,18 @@ module _ (q : Question) (name s : List ℕ) where
       ↔ (testOf n (tests (caseOf q name s)) ≡ true) × ((m : ℕ) → m < n → testOf m (tests (caseOf q name s)) ≡ false)
   refused-exactly = ruling.refusal-exactly q name s
 
-  -- a refusal hands out its number, 1 to 16; with 4 the response's status, with another number 0; and an empty card
+  -- a refusal hands out its number, 1 to 16; with 4 the response's status, with another number 0; with 3 the place where the
+  -- response does not fit, with another number none; and an empty card
   pub handed-out : (n status : ℕ) → answerOf q name s .verdict ≡ Refused n status
       → (answerOf q name s .card ≡ emptyCard)
       × (1 ≤ n) × (n ≤ 16)
       × (n ≡ 4 → reading s ≡ reads (failed status))
       × ((n ≡ 4 → ⊥) → status ≡ 0)
-  handed-out n status v = let r = ruling.refusal-whole q name s n status v in (r .card, r .least, r .most, r .four, r .other)
+      × (n ≡ 3 → (p : ℕ) × (reading s ≡ unfit p) × (answerOf q name s .place ≡ At p))
+      × ((n ≡ 3 → ⊥) → answerOf q name s .place ≡ Absent)
+  handed-out n status v =
+      let r = ruling.refusal-whole q name s n status v in
+      (r .card, r .least, r .most, r .four, r .other, r .three, r .placeless)
 
   -- the status that goes with 4 is 1, 2, 3, 5 or 6
   pub error-status : Octets s → (status : ℕ) → IsRefusal s (answerOf q name s) 4 status → FailureOk status

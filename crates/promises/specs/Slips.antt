@@ -14,7 +14,7 @@ use mathlib.Core.List.{List, [], _∷_, _++_, flatten, append-assoc}
 use lib.ListN.{length, drop}
 use Rattle.octets.specs.Octets.{Octets}
 use Rattle.octets.specs.Number.{octetsOf}
-use Rattle.answer.specs.Verdict.{kindOf, reasonOf, refused}
+use Rattle.answer.specs.Verdict.{kindOf, reasonOf, saying, withoutPlace, refused}
 use Rattle.answer.specs.declared.Card.{Card}
 use Rattle.answer.specs.declared.Reason.{Reason}
 use Rattle.answer.specs.declared.Verdict.the-variants.{Good, Revoked, Unknown, Refused}
@@ -30,40 +30,40 @@ use Rattle.slip.specs.SlipLaws as slip
 -- ── the octets, by kind ──
 module _ (card : Card) (this next : ℕ) where
   -- 01 good and 03 unknown: both hashes, the serial's length, the serial in 20 octets, thisUpdate 8, nextUpdate 8
-  pub good-slip : slipOf (record { verdict = Good this next; card = card })
+  pub good-slip : slipOf (saying (Good this next) card)
       ≡ 1 ∷ flatten (card .name ∷ card .key ∷ octetsOf 1 (card .size) ∷ card .serial ∷ octetsOf 8 this ∷ octetsOf 8 next ∷ [])
   unfolding slipComputes
   good-slip = simp append-assoc
 
-  pub unknown-slip : slipOf (record { verdict = Unknown this next; card = card })
+  pub unknown-slip : slipOf (saying (Unknown this next) card)
       ≡ 3 ∷ flatten (card .name ∷ card .key ∷ octetsOf 1 (card .size) ∷ card .serial ∷ octetsOf 8 this ∷ octetsOf 8 next ∷ [])
   unfolding slipComputes
   unknown-slip = simp append-assoc
 
   -- 02 revoked: the same, revocationTime 8, reason 1, FF if absent
-  pub revoked-slip : (at : ℕ) (reason : Reason) → slipOf (record { verdict = Revoked this next at reason; card = card })
+  pub revoked-slip : (at : ℕ) (reason : Reason) → slipOf (saying (Revoked this next at reason) card)
       ≡ 2 ∷ flatten (card .name ∷ card .key ∷ octetsOf 1 (card .size) ∷ card .serial ∷ octetsOf 8 this ∷ octetsOf 8 next ∷ octetsOf 8 at ∷ octetsOf 1 (reasonOf reason) ∷ [])
   unfolding slipComputes
   revoked-slip at reason = simp append-assoc
 
   -- 04 refusal: number, status
-  pub refusal-slip : (number status : ℕ) → slipOf (record { verdict = Refused number status; card = card })
+  pub refusal-slip : (number status : ℕ) → slipOf (saying (Refused number status) card)
       ≡ 4 ∷ flatten (octetsOf 1 number ∷ octetsOf 1 status ∷ [])
   unfolding slipComputes
   refusal-slip number status = refl
 
 -- ── written and read ──
 
--- reading a slip that was written gives back its answer
-pub read-back : (a : Answer) → slipOk a ≡ true → Hashed 20 a → readOf 20 (slipOf a) ≡ a
+-- reading a slip that was written gives back its answer, without a place
+pub read-back : (a : Answer) → slipOk a ≡ true → Hashed 20 a → readOf 20 (slipOf a) ≡ withoutPlace a
 read-back a ok h = slip.read-written a ok 20 h
 
 -- a slip that is read, written again, is the same octets, and its answer keeps the slip rules
 pub written-back : (s : List ℕ) → Octets s → (readOf 20 s ≡ refused 17 0 → ⊥) → (slipOk (readOf 20 s) ≡ true) × (slipOf (readOf 20 s) ≡ s)
 written-back = slip.written-read 20
 
--- octets read as an answer that keeps the rules exactly where they are its slip
-pub exactly-its-slip : (s : List ℕ) → Octets s → (a : Answer) → slipOk a ≡ true → Hashed 20 a → readOf 20 s ≡ a ↔ slipOf a ≡ s
+-- octets read as an answer without its place, where it keeps the rules, exactly where they are its slip
+pub exactly-its-slip : (s : List ℕ) → Octets s → (a : Answer) → slipOk a ≡ true → Hashed 20 a → readOf 20 s ≡ withoutPlace a ↔ slipOf a ≡ s
 exactly-its-slip = slip.read-exactly 20
 
 -- a slip has its exact length: 78 good and unknown, 87 revoked, 3 a refusal

@@ -18,7 +18,7 @@ use Rattle.read_response.specs.Refusals.{refusalOf}
 use Rattle.show.specs.Shown.{entryOf}
 use Rattle.show.specs.declared.Entry.{Entry}
 use Rattle.show.specs.declared.Entry.the-variants as entry
-use Rattle.answer.specs.Verdict.{refused}
+use Rattle.answer.specs.Verdict.{refusedAt}
 use Rattle.answer.specs.declared.Card.{Card}
 use Rattle.rule_search.specs.Search.{foundOf, forCard}
 use Rattle.rule_search.specs.FoundLaws.{found-none, found-one, found-two}
@@ -36,7 +36,7 @@ use Rattle.rule_check.specs.CheckLaws.{check-by-parts}
 use Rattle.desk_c.specs.Places.{entryNumber}
 use Rattle.desk_c.specs.EntryLaws.{entry-number}
 use Rattle.promises.specs.Numbers.{Told}
-use Rattle.promises.specs.NumbersOfCheck.{entryTold, foundTold, openedTold}
+use Rattle.promises.specs.NumbersOfCheck.{entryTold, foundTold, openedTold, openedPlace}
 
 -- show::entry_at, at every ordinal: the number is the response's refusal, 0 where it has none
 pub entry-told : (s : List ℕ) (k : ℕ) → entryTold (entryOf s k) .number ≡ refusalOf (judgedOf s) .number
@@ -46,7 +46,7 @@ entry-told s k = same (entryOf s k) ∙ entry-number s k
     same : (x : Entry) → entryTold x .number ≡ entryNumber x
     same (entry.At start len) = refl
     same entry.End = refl
-    same (entry.Refused number status) = refl
+    same (entry.Refused number status place) = refl
 
 -- rule_search::search: 10 exactly where no entry is for the card, 0 exactly where one is, 11 exactly where two or more are
 pub found-told : (card : Card) (l : List layout.Entry) (n : ℕ) → n ≡ foundTold (foundOf card l) .number
@@ -79,13 +79,13 @@ found-told card l n i = rw i (go (foundOf card l) refl)
         )
 
 -- rule_response::open, for a question in range whose card has hashes and a serial of octets: a number that it gives is the check's
--- answer, and the status goes with it
+-- answer, and the status and the place go with it
 pub opened-told : (q : Question) (name s : List ℕ) → InRange q name → Octets s → HashOk (q .card .name) → HashOk (q .card .key) → Octets (q .card .serial)
-    → (told : Told) → told ≡ openedTold (openedOf q name s) → (told .number ≡ 0 → ⊥) → answerOf q name s ≡ refused (told .number) (told .status)
+    → (told : Told) → told ≡ openedTold (openedOf q name s) → (told .number ≡ 0 → ⊥) → answerOf q name s ≡ refusedAt (told .number) (told .status) (openedPlace (openedOf q name s))
 unfolding openedRuled
 opened-told q name s range o h k z told i n =
     check-by-parts q name s (range-exactly q name .1 range) o (record { name = h; key = k; serial = z }) ∙ go (openedOf q name s) i
   where
-    go : (x : Opened) → told ≡ openedTold x → openedRuled q s x ≡ refused (told .number) (told .status)
-    go (opened.Refused number status) j = rw j
+    go : (x : Opened) → told ≡ openedTold x → openedRuled q s x ≡ refusedAt (told .number) (told .status) (openedPlace x)
+    go (opened.Refused number status place) j = rw j
     go (opened.Clear start len) j = absurd (n (ap (λ (t : Told). t .number) j))

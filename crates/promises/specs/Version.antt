@@ -27,7 +27,8 @@ use Rattle.layout.specs.Read.{der, reads, unfit, reading}
 use Rattle.layout.specs.Theorem.{sound, complete}
 use Rattle.layout.specs.VersionLaws as laws
 use Rattle.layout.specs.OtherVersionLaws as others
-use Rattle.answer.specs.Verdict.{refused}
+use Rattle.answer.specs.Verdict.{refusedAt}
+use Rattle.answer.specs.declared.Place.the-variants.{At}
 use Rattle.read_response.specs.Parts.{judgedOf}
 use Rattle.read_response.specs.OutcomeLaws.{unfit-judged}
 use Rattle.read_response.specs.declared.Judged.the-variants as judged
@@ -122,6 +123,6 @@ module _ (w z x y s : List ℕ) (other : w ≡ 0x00 ∷ [] → ⊥) (o : Octets 
   pub another-version : (judgedOf s ≡ judged.Unfit place) × (drop place s ≡ formOf 0x02 w ++ (z ++ (x ++ y)))
   another-version = (unfit-judged s place .1 (le, unfits), others.another-stands w z x y other s (same ∙ sym (success-form _ _)))
 
-  -- so a question in range gets 3
-  pub another-refused : (q : Question) (name : List ℕ) → InRange q name → answerOf q name s ≡ refused 3 0
-  another-refused q name range = three-exactly q name s (range-exactly q name .1 range) .1 (le, (place, unfits))
+  -- so a question in range gets 3, with that place
+  pub another-refused : (q : Question) (name : List ℕ) → InRange q name → answerOf q name s ≡ refusedAt 3 0 (At place)
+  another-refused q name range = three-exactly q name s (range-exactly q name .1 range) place .1 (le, unfits)

@@ -7,6 +7,7 @@ use mathlib.Core.List.{List, [], _∷_, _++_}
 use Rattle.layout.specs.Opened.{opened}
 use Rattle.layout.specs.Examples.{typeElement, first, next, hashes, signature}
 use Rattle.layout.specs.Sha1.{sha1}
+use Rattle.answer.specs.declared.Place.the-variants as place
 use Rattle.read_response.specs.Parts.{span, partsFrom, judgedAs, judgedOf}
 use Rattle.read_response.specs.Refusals.{refusal, refusalOf}
 use Rattle.read_response.specs.declared.Judged.the-variants as judged
@@ -45,12 +46,12 @@ full-judged = refl
 
 -- ── refusals ──
 -- an error response gives 4, and its status
-unauthorized : refusalOf (judgedOf (0x30 ∷ 0x03 ∷ 0x0a ∷ 0x01 ∷ 0x06 ∷ [])) ≡ refusal 4 6
+unauthorized : refusalOf (judgedOf (0x30 ∷ 0x03 ∷ 0x0a ∷ 0x01 ∷ 0x06 ∷ [])) ≡ refusal 4 6 place.Absent
 unfolding opened judgedOf judgedAs refusalOf
 unauthorized = refl
 
--- M10: 30 03 0A 01 04 gives 3
-m10 : refusalOf (judgedOf (0x30 ∷ 0x03 ∷ 0x0a ∷ 0x01 ∷ 0x04 ∷ [])) ≡ refusal 3 0
+-- M10: 30 03 0A 01 04 gives 3, at the status
+m10 : refusalOf (judgedOf (0x30 ∷ 0x03 ∷ 0x0a ∷ 0x01 ∷ 0x04 ∷ [])) ≡ refusal 3 0 (place.At 2)
 unfolding opened judgedOf judgedAs refusalOf
 m10 = refl
 

@@ -6,6 +6,7 @@ mod basics; // the basic response
 mod refusals; // the refusal
 mod whole; // the response as a whole
 
+use answer::Place;
 pub use refusals::refusal_of;
 pub use refusals::refuse;
 pub use whole::judge;
@@ -56,4 +57,6 @@ pub struct Refusal {
     pub number: u8,
     // The response status, with 4; else 0.
     pub status: u8,
+    // The place that does not fit, with 3; else none.
+    pub place: Place,
 }

@@ -11,7 +11,8 @@ use borrow.Author.Tests.{not-true, not-false}
 use mir.Syntax.{w8, w64}
 use mir.Val.{Fits}
 use Rattle.octets.specs.OctetsLaws.{octets-from}
-use Rattle.answer.specs.Verdict.{refused}
+use Rattle.answer.specs.Verdict.{refusedAt, refused}
+use Rattle.answer.specs.declared.Place.{Place}
 use Rattle.answer.specs.declared.Answer.{Answer}
 use Rattle.read_response.specs.Parts.{judgedOf}
 use Rattle.read_response.specs.Refusals.{refusalOf}
@@ -28,9 +29,10 @@ use Rattle.rule_check.specs.CheckLaws.{CardKnown, check-by-parts, error-
 
 -- ── judged as a whole, then for the card ──
 module _ (q : Question) (name s : List ℕ) (octet : (i : ℕ) → Fits w8 (getD s i 0)) (w : Opened) (y : w ≡ openedOf q name s) where
-  pub rule-refused : (n status : ℕ) → w ≡ Refused n status → (a : Answer) → a ≡ refused n status → a ≡ openedRuled q s (openedOf q name s)
+  pub rule-refused : (n status : ℕ) (place : Place) → w ≡ Refused n status place → (a : Answer) → a ≡ refusedAt n status place
+      → a ≡ openedRuled q s (openedOf q name s)
   unfolding openedRuled
-  rule-refused n status e a h = h ∙ ap (openedRuled q s) (sym e ∙ y)
+  rule-refused n status place e a h = h ∙ ap (openedRuled q s) (sym e ∙ y)
 
   module _ (b l : ℕ) (e : w ≡ Clear b l) where
     pub rule-end : b + l ≤ length s

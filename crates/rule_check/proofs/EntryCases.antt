@@ -23,7 +23,7 @@ use Rattle.freshness.specs.Fresh.{freshOf}
 use Rattle.freshness.specs.declared.Next.the-variants as next
 use Rattle.freshness.specs.declared.Freshness.{Freshness}
 use Rattle.freshness.specs.declared.Freshness.the-variants.{Fresh, Endless, Reversed, Early, Late}
-use Rattle.answer.specs.Verdict.{refused}
+use Rattle.answer.specs.Verdict.{saying, refused}
 use Rattle.answer.specs.declared.Card.{Card}
 use Rattle.answer.specs.declared.Reason.{Reason}
 use Rattle.answer.specs.declared.Reason.the-variants as reason
@@ -59,7 +59,7 @@ module _ (st : Standing) (this end : ℕ) where
   -- ── its times ──
   module _ (card : Card) (f : Freshness) where
     pub fresh-accepted : f ≡ Fresh → (v : Verdict) → v ≡ verdictFor st this end
-        → _≡_ {A = Answer} (record { verdict = v; card = card }) (freshRuled card st this end f)
+        → _≡_ {A = Answer} (saying v card) (freshRuled card st this end f)
     unfolding freshRuled
     fresh-accepted e v h = rw (e, h)
 

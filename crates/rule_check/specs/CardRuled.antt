@@ -4,7 +4,7 @@
 use Prim.Native.Nat.{ℕ}
 use mathlib.Core.List.{List}
 use lib.ListN.{take, drop}
-use Rattle.answer.specs.Verdict.{refused}
+use Rattle.answer.specs.Verdict.{refusedAt, refused}
 use Rattle.answer.specs.declared.Answer.{Answer}
 use Rattle.rule_search.specs.Search.{searchOf}
 use Rattle.rule_search.specs.declared.Found.{Found}
@@ -25,5 +25,5 @@ cardRuled q s = foundRuled q s (searchOf (q .card) s)
 
 -- a response that is judged, for the card
 unfoldable pub openedRuled : Question → List ℕ → Opened → Answer
-openedRuled q s (Refused n status) = refused n status
+openedRuled q s (Refused n status place) = refusedAt n status place
 openedRuled q s (Clear b l) = cardRuled q (take l (drop b s))

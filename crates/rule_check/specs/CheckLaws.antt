@@ -128,7 +128,7 @@ module _ (q : Question) (name s : List ℕ) (range : inRange q name ≡ true) (o
     limits = sound s (basic b) o r .0
 
     basic-answer : answerOf q name s ≡ openedRuled q s (partsOpened q name s parts)
-    unfolding partsOpened numberOpened openedRuled
+    unfolding partsOpened numberOpened openedRuled refused
     basic-answer = rw (refusal-is s o size b r q name) (go (eqb (q .verdict) 1) (isSigner (q .signer) name (b .signed .responder)) (eqb (q .role) 2 && lacksMark (q .marks)) (strangeIn inResponse (b .signed .extensions)) refl refl refl refl)
       where
         go : (v g m x : Bool) → eqb (q .verdict) 1 ≡ v → isSigner (q .signer) name (b .signed .responder) ≡ g → eqb (q .role) 2 && lacksMark (q .marks) ≡ m
@@ -147,7 +147,7 @@ module _ (q : Question) (name s : List ℕ) (range : inRange q name ≡ true) (o
 
   -- judged as a whole, then for the card: what the table says of a question in range
   pub check-by-parts : answerOf q name s ≡ openedRuled q s (openedOf q name s)
-  unfolding openedOf judgedOf openedBy judgedAs openedRuled
+  unfolding openedOf judgedOf openedBy judgedAs openedRuled refused
   check-by-parts = go (ltb 16384 (length s)) refl (reading s) refl
     where
       go : (t : Bool) → ltb 16384 (length s) ≡ t → (x : Outcome) → reading s ≡ x
@@ -160,7 +160,7 @@ module _ (q : Question) (name s : List ℕ) (range : inRange q name ≡ true) (o
 
   -- an error response, with its status
   pub error-answer : (n : ℕ) → n ≡ refusalOf (judgedOf s) .status → (n ≡ 0 → ⊥) → answerOf q name s ≡ refused 4 n
-  unfolding openedOf openedBy openedRuled refusalOf
+  unfolding openedOf openedBy openedRuled refusalOf refused
   error-answer n i k = check-by-parts ∙ go (judgedOf s) i
     where
       go : (j : Judged) → n ≡ refusalOf j .status → openedRuled q s (openedBy q name s j) ≡ refused 4 n

@@ -21,7 +21,7 @@ use Rattle.freshness.specs.Fresh.{freshOf}
 use Rattle.freshness.specs.declared.Next.the-variants as next
 use Rattle.freshness.specs.declared.Freshness.{Freshness}
 use Rattle.freshness.specs.declared.Freshness.the-variants.{Fresh, Endless, Reversed, Early, Late}
-use Rattle.answer.specs.Verdict.{refused}
+use Rattle.answer.specs.Verdict.{saying, refused}
 use Rattle.answer.specs.declared.Card.{Card}
 use Rattle.answer.specs.declared.Reason.{Reason}
 use Rattle.answer.specs.declared.Reason.the-variants as reason
@@ -45,7 +45,7 @@ verdictFor (standing.Revoked t r) this next = Revoked this next t (reasonFor r)
 
 -- by whether it counts: accepted for the card, or the first rule that its times miss
 unfoldable pub freshRuled : Card → Standing → ℕ → ℕ → Freshness → Answer
-freshRuled card st this next Fresh = record { verdict = verdictFor st this next; card = card }
+freshRuled card st this next Fresh = saying (verdictFor st this next) card
 freshRuled card st this next Endless = refused 13 0
 freshRuled card st this next (Reversed n) = refused 14 0
 freshRuled card st this next (Early n) = refused 15 0

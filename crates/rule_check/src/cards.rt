@@ -38,7 +38,11 @@ fn rule(q: Question, name: &[u8], s: &[u8]) -> Answer
 {
     let opened = rule_response::open(q, name, s);
     match opened {
-        Opened::Refused { number, status } => answer::refuse(number, status),
+        Opened::Refused {
+            number,
+            status,
+            place,
+        } => answer::refuse_at(number, status, place),
         Opened::Clear { start, len } => {
             let end = start + len;
             rule_card(q, &s[start..end])

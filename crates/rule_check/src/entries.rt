@@ -1,6 +1,7 @@
 // One entry (refusals 12 to 16), and what is accepted.
 use answer::Answer;
 use answer::Card;
+use answer::Place;
 use answer::Reason;
 use answer::Verdict;
 use freshness::Freshness;
@@ -55,7 +56,12 @@ fn rule_fresh(card: Card, standing: Standing, this: u64, next: u64, fresh: Fresh
         Freshness::Late(_) => answer::refuse(16, 0),
         Freshness::Fresh => {
             let verdict = verdict_for(standing, this, next);
-            Answer { verdict, card }
+            let place = Place::Absent;
+            Answer {
+                verdict,
+                card,
+                place,
+            }
         }
     }
 }

@@ -22,6 +22,7 @@ use Rattle.read_response.specs.declared.Span.{Span}
 use Rattle.read_response.specs.declared.Parts.{Parts}
 use Rattle.read_response.specs.declared.Judged.{Judged}
 use Rattle.read_response.specs.declared.Judged.the-variants as judged
+use Rattle.answer.specs.declared.Place.the-variants as place
 use Rattle.rules.specs.declared.Question.{Question}
 use Rattle.rule_tests.specs.StrangePlace.{isPlace, responseKnown}
 use Rattle.rule_response.specs.declared.Opened.{Opened}
@@ -71,7 +72,7 @@ module _ (q : Question) (name s : List ℕ) (p : Parts) (n : ℕ)
   number-is : n ≡ refusalIn q name (take (p .responder .len) (drop (p .responder .start) s)) (take (p .extensions .len) (drop (p .extensions .start) s))
   number-is = rw (part-is (p .responder .start) (p .responder .len) s, part-is (p .extensions .start) (p .extensions .len) s) at x
 
-  pub parts-refused : (n ≡ 0 → ⊥) → Refused n 0 ≡ partsOpened q name s p
+  pub parts-refused : (n ≡ 0 → ⊥) → Refused n 0 place.Absent ≡ partsOpened q name s p
   unfolding partsOpened numberOpened
   parts-refused h = rw (← number-is, ne-eqb n 0 h)
 
@@ -81,19 +82,19 @@ module _ (q : Question) (name s : List ℕ) (p : Parts) (n : ℕ)
 
 -- ── the whole ──
 module _ (q : Question) (name s : List ℕ) (j : Judged) (x : j ≡ judgedOf s) where
-  pub open-long : j ≡ judged.TooLong → Refused 2 0 ≡ openedOf q name s
+  pub open-long : j ≡ judged.TooLong → Refused 2 0 place.Absent ≡ openedOf q name s
   unfolding openedOf openedBy
   open-long h = rw (sym x ∙ h)
 
-  pub open-unfit : (p : ℕ) → j ≡ judged.Unfit p → Refused 3 0 ≡ openedOf q name s
+  pub open-unfit : (p : ℕ) → j ≡ judged.Unfit p → Refused 3 0 (place.At p) ≡ openedOf q name s
   unfolding openedOf openedBy
   open-unfit p h = rw (sym x ∙ h)
 
-  pub open-failed : (n : ℕ) → j ≡ judged.Failed n → Refused 4 n ≡ openedOf q name s
+  pub open-failed : (n : ℕ) → j ≡ judged.Failed n → Refused 4 n place.Absent ≡ openedOf q name s
   unfolding openedOf openedBy
   open-failed n h = rw (sym x ∙ h)
 
-  pub open-other : j ≡ judged.OtherType → Refused 5 0 ≡ openedOf q name s
+  pub open-other : j ≡ judged.OtherType → Refused 5 0 place.Absent ≡ openedOf q name s
   unfolding openedOf openedBy
   open-other h = rw (sym x ∙ h)
 

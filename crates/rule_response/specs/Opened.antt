@@ -7,6 +7,7 @@ use mathlib.Core.Bool.{Bool, false, cond}
 use mathlib.Core.List.{List}
 use lib.Dec.{eqb}
 use lib.ListN.{take, drop}
+use Rattle.answer.specs.declared.Place.the-variants as place
 use Rattle.read_critical.specs.Strange.{strangeOf}
 use Rattle.read_response.specs.Parts.{judgedOf}
 use Rattle.read_response.specs.declared.Span.{Span}
@@ -40,7 +41,7 @@ cutAt s at = take (at .len) (drop (at .start) s)
 
 -- by the number
 unfoldable pub numberOpened : Span → ℕ → Opened
-numberOpened at n = cond (eqb n 0) (Clear (at .start) (at .len)) (Refused n 0)
+numberOpened at n = cond (eqb n 0) (Clear (at .start) (at .len)) (Refused n 0 place.Absent)
 
 -- a basic response with these parts
 unfoldable pub partsOpened : Question → List ℕ → List ℕ → Parts → Opened
@@ -48,10 +49,10 @@ partsOpened q name s p = numberOpened (p .entries) (refusalIn q name (cutAt s (p
 
 -- by what the response is
 unfoldable pub openedBy : Question → List ℕ → List ℕ → Judged → Opened
-openedBy q name s judged.TooLong = Refused 2 0
-openedBy q name s (judged.Unfit p) = Refused 3 0
-openedBy q name s (judged.Failed n) = Refused 4 n
-openedBy q name s judged.OtherType = Refused 5 0
+openedBy q name s judged.TooLong = Refused 2 0 place.Absent
+openedBy q name s (judged.Unfit p) = Refused 3 0 (place.At p)
+openedBy q name s (judged.Failed n) = Refused 4 n place.Absent
+openedBy q name s judged.OtherType = Refused 5 0 place.Absent
 openedBy q name s (judged.Basic p) = partsOpened q name s p
 
 unfoldable pub openedOf : Question → List ℕ → List ℕ → Opened

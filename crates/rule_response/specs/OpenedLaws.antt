@@ -35,6 +35,7 @@ use Rattle.rules.specs.Signer.{isSigner, inResponse, strangeIn}
 use Rattle.rules.specs.Order.{lacksMark}
 use Rattle.rule_tests.specs.StrangePlace.{isPlace, responseKnown}
 use Rattle.rule_tests.specs.StrangeInLaws.{strange-response}
+use Rattle.answer.specs.declared.Place.the-variants as place
 use Rattle.rule_response.specs.declared.Opened.the-variants.{Refused, Clear}
 use Rattle.rule_response.specs.SignerIn.{signsIn}
 use Rattle.rule_response.specs.SignerInLaws.{signs-form}
@@ -64,7 +65,7 @@ number-clear : (at : Span) (n b l : ℕ) → numberOpened at n ≡ Clear b l →
 unfolding numberOpened
 number-clear at n b l e = go (eqb n 0) e
   where
-    go : (t : Bool) → cond t (Clear (at .start) (at .len)) (Refused n 0) ≡ Clear b l → (at .start ≡ b) × (at .len ≡ l)
+    go : (t : Bool) → cond t (Clear (at .start) (at .len)) (Refused n 0 place.Absent) ≡ Clear b l → (at .start ≡ b) × (at .len ≡ l)
     go true e = (cc, cc)
     go false e = never (cc)
 

@@ -1,6 +1,7 @@
 // The response as a whole (refusals 2 to 9): judged once, whatever card is asked about.
 use crate::Opened;
 use crate::signs;
+use answer::Place;
 use read_response::Judged;
 use read_response::Parts;
 use rules::Question;
@@ -53,7 +54,11 @@ fn open_parts(q: Question, name: &[u8], s: &[u8], parts: Parts) -> Opened
     let end = from + extensions.len;
     let number = refusal_in(q, name, &s[first..last], &s[from..end]);
     if number != 0 {
-        return Opened::Refused { number, status: 0 };
+        return Opened::Refused {
+            number,
+            status: 0,
+            place: Place::Absent,
+        };
     }
     let entries = parts.entries;
     Opened::Clear {
@@ -71,15 +76,22 @@ pub fn open(q: Question, name: &[u8], s: &[u8]) -> Opened
         Judged::TooLong => Opened::Refused {
             number: 2,
             status: 0,
+            place: Place::Absent,
         },
-        Judged::Unfit(_) => Opened::Refused {
+        Judged::Unfit(p) => Opened::Refused {
             number: 3,
             status: 0,
+            place: Place::At(p),
         },
-        Judged::Failed(status) => Opened::Refused { number: 4, status },
+        Judged::Failed(status) => Opened::Refused {
+            number: 4,
+            status,
+            place: Place::Absent,
+        },
         Judged::OtherType => Opened::Refused {
             number: 5,
             status: 0,
+            place: Place::Absent,
         },
         Judged::Basic(parts) => open_parts(q, name, s, parts),
     }

@@ -12,10 +12,11 @@ use lib.ListN.{length}
 use Rattle.calendar.specs.Time.{lastSecond}
 use Rattle.codec.specs.Tree.{treeEnc}
 use Rattle.layout.specs.Reading.{Extension, Responder, byName, byKey, Entry, Basic, failed, basic}
-use Rattle.layout.specs.Read.{reads, reading}
+use Rattle.layout.specs.Read.{reads, unfit, reading}
 use Rattle.answer.specs.Card.{cardOk, emptyCard}
 use Rattle.answer.specs.declared.Verdict.{Verdict}
 use Rattle.answer.specs.declared.Verdict.the-variants.{Good, Revoked, Unknown, Refused}
+use Rattle.answer.specs.declared.Place.the-variants as place
 use Rattle.answer.specs.declared.Answer.{Answer}
 use Rattle.rules.specs.declared.Question.{Question}
 use Rattle.rules.specs.Signer.{ocspOid}
@@ -97,7 +98,7 @@ HasTimes (Revoked t n at reason) this next = (t ≡ this) × (n ≡ next)
 HasTimes (Unknown t n) this next = (t ≡ this) × (n ≡ next)
 HasTimes (Refused number status) this next = ⊥
 
--- an answer to a response s is the refusal with a number, 1 to 16, and a status
+-- an answer to a response s is the refusal with a number, 1 to 16, a status and a place
 pub record IsRefusal (s : List ℕ) (a : Answer) (number status : ℕ) : Type 0 where
   pub verdict : a .verdict ≡ Refused number status
   -- an empty part
@@ -107,3 +108,6 @@ pub record IsRefusal (s : List ℕ) (a : Answer) (number status : ℕ) : Type 0 
   -- with 4 goes the status of the response, with another number 0
   pub four : number ≡ 4 → reading s ≡ reads (failed status)
   pub other : (number ≡ 4 → ⊥) → status ≡ 0
+  -- with 3 goes the place of the response that does not fit, with another number none
+  pub three : number ≡ 3 → (p : ℕ) × (reading s ≡ unfit p) × (a .place ≡ place.At p)
+  pub placeless : (number ≡ 3 → ⊥) → a .place ≡ place.Absent

@@ -1,5 +1,5 @@
 -- The check by computing, from the octets: the case of document 01's program, M11, and what must be refused.
--- checked; card, questionAt; failure, desk-case; response, answered, m11-passes, m11-late, m11-tolerated; other-issuer, too-tolerant.
+-- checked; card, questionAt; failure, desk-case; unfitStatus, unfit-placed; response, answered, m11-passes, m11-late, m11-tolerated; other-issuer, too-tolerant.
 -- Assumes nothing.
 use Prim.Native.Nat.{ℕ}
 use mathlib.Core.Path.{_≡_, refl}
@@ -13,14 +13,15 @@ use Rattle.content.specs.Serial.{leadOk, serialOk}
 use Rattle.calendar.specs.Examples.{text}
 use Rattle.codec.specs.Tree.{prim}
 use Rattle.layout.specs.Reading.{good, byKey, Basic, failed, basic}
-use Rattle.layout.specs.Read.{basicType, reads, reading}
+use Rattle.layout.specs.Read.{basicType, reads, unfit, reading}
 use Rattle.layout.specs.Opened.{opened}
 use Rattle.layout.specs.Sha1.{sha1}
 use Rattle.freshness.specs.Fresh.{freshOf}
 use Rattle.answer.specs.Card.{allZero, fieldOk}
-use Rattle.answer.specs.Verdict.{refused}
+use Rattle.answer.specs.Verdict.{saying, refusedAt, refused}
 use Rattle.answer.specs.declared.Card.{Card}
 use Rattle.answer.specs.declared.Verdict.the-variants.{Good}
+use Rattle.answer.specs.declared.Place.the-variants as place
 use Rattle.rule_matching.specs.Match.{matches}
 use Rattle.rules.specs.declared.Question.{Question}
 use Rattle.rules.specs.Question.{inRange}
@@ -31,7 +32,7 @@ use Rattle.rules.specs.RefusalLaws.{out-of-range}
 
 -- what the check computes with once a response is read: a proof that says `unfolding checked` opens it
 unfoldable pub checked : Unit {0}
-unfolding answerOf tests firstOf inRange fieldOk serialOk leadOk allZero isSigner strange entriesFor matches sameOf valueOf freshOf
+unfolding answerOf tests firstOf inRange fieldOk serialOk leadOk allZero isSigner strange entriesFor matches sameOf valueOf freshOf refused
 checked = tt
 
 -- hashes all 11 and all 22, serial 05
@@ -54,6 +55,18 @@ failure-read = refl
 pub desk-case : answerOf (questionAt 1114909200 0) [] failure ≡ refused 4 6
 unfolding checked
 desk-case = rw failure-read
+
+-- status 4 does not fit: the place is that of the status
+abbrev pub unfitStatus : List ℕ
+unfitStatus = 0x30 ∷ 0x03 ∷ 0x0a ∷ 0x01 ∷ 0x04 ∷ []
+
+pub unfit-read : reading unfitStatus ≡ unfit 2
+unfolding opened
+unfit-read = refl
+
+pub unfit-placed : answerOf (questionAt 1114909200 0) [] unfitStatus ≡ refusedAt 3 0 (place.At 2)
+unfolding checked
+unfit-placed = rw unfit-read
 
 -- ---- M11: one good entry for the card, thisUpdate 20050501010000Z and nextUpdate 20050503010000Z, signed by the key 33..
 
@@ -104,7 +117,7 @@ unfolding opened
 response-read = refl
 
 -- with tolerance 0 now 1,115,082,000 passes
-pub m11-passes : answerOf (questionAt 1115082000 0) [] response ≡ record { verdict = Good 1114909200 1115082000; card = card }
+pub m11-passes : answerOf (questionAt 1115082000 0) [] response ≡ saying (Good 1114909200 1115082000) card
 unfolding checked
 m11-passes = rw response-read
 
@@ -114,7 +127,7 @@ unfolding checked
 m11-late = rw response-read
 
 -- with tolerance 1 it passes
-pub m11-tolerated : answerOf (questionAt 1115082001 1) [] response ≡ record { verdict = Good 1114909200 1115082000; card = card }
+pub m11-tolerated : answerOf (questionAt 1115082001 1) [] response ≡ saying (Good 1114909200 1115082000) card
 unfolding checked
 m11-tolerated = rw response-read
 

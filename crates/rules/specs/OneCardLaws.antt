@@ -16,6 +16,7 @@ use Rattle.layout.specs.Reading.{Entry, Basic, basic}
 use Rattle.layout.specs.Read.{reads, reading}
 use Rattle.answer.specs.Card.{serialIn}
 use Rattle.answer.specs.CardLaws.{field-exactly}
+use Rattle.answer.specs.Verdict.{saying}
 use Rattle.rules.specs.declared.Question.{Question}
 use Rattle.rules.specs.Ruling.{said, answerOf}
 use Rattle.rules.specs.Accepted.{Accepted, NoRefusal}
@@ -28,7 +29,7 @@ pub never-another-card : (q : Question) (name s : List ℕ) → NoRefusal (answe
     → (b : Basic) × (e : Entry) × (next : ℕ)
     × (reading s ≡ reads (basic b))
     × OnlyEntry (q .card) (b .signed .entries) e
-    × (answerOf q name s ≡ record { verdict = said (e .status) (e .thisUpdate) next; card = q .card })
+    × (answerOf q name s ≡ saying (said (e .status) (e .thisUpdate) next) (q .card))
 never-another-card q name s h =
     let (b, e, next, a) = accepted-exactly q name s .0 h in
     (b, e, next, a .readsAs, only-exactly (q .card) (b .signed .entries) e .0 (a .only), accepted-answer q name s b e next a)

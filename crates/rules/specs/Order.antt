@@ -13,6 +13,8 @@ use Rattle.freshness.specs.Fresh.{freshOf, freshRefusal}
 use Rattle.freshness.specs.declared.Next.{Next}
 use Rattle.freshness.specs.declared.Next.the-variants.{At, Absent}
 use Rattle.answer.specs.declared.Card.{Card}
+use Rattle.answer.specs.declared.Place.{Place}
+use Rattle.answer.specs.declared.Place.the-variants as place
 use Rattle.rule_matching.specs.Match.{isFor}
 use Rattle.rules.specs.declared.Question.{Question}
 use Rattle.rules.specs.Question.{inRange}
@@ -49,6 +51,12 @@ statusIn (unfit p) = 0
 statusIn otherType = 0
 statusIn (reads (failed n)) = n
 statusIn (reads (basic b)) = 0
+
+-- the place of a response that does not fit, else none
+abbrev pub misfitIn : Outcome → Place
+misfitIn (unfit p) = place.At p
+misfitIn otherType = place.Absent
+misfitIn (reads r) = place.Absent
 
 -- what is so of the basic response, where there is one
 abbrev pub inBasic : Outcome → (Basic → Bool) → Bool

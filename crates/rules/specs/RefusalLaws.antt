@@ -1,12 +1,12 @@
 -- Refusals: the check refuses with a number exactly when that row of the table is the first that applies, the answer is
 -- then that number with an empty card, and it is never good, revoked or unknown.
--- refusal-number, refusal-whole, refusal-exactly, refusal-not-revoked, answer-either; refusal-status, out-of-range.
+-- refusal-number, refusal-whole, refusal-placeless, refusal-exactly, refusal-not-revoked, answer-either; refusal-status, out-of-range.
 -- The definitions are in Ruling, Rows and Accepted. Assumes nothing.
 use Prim.Native.Nat.{ℕ, _<_}
 use native.Mathlib.Omega.{arith}
 use mathlib.Core.Logic.{_⊎_, inl, inr, _↔_}
 use mathlib.Core.Path.{_≡_, refl, sym, ap, _∙_}
-use mathlib.Core.Bool.{Bool, true, false, cond}
+use mathlib.Core.Bool.{Bool, true, false}
 use mathlib.Core.List.{List}
 use lib.Dec.{eqb}
 use borrow.Author.Tests.{eqb-true, eqb-false, eq-eqb, ne-eqb}
@@ -16,14 +16,15 @@ use Rattle.layout.specs.Reading.{Entry, Basic, failed, basic}
 use Rattle.layout.specs.Read.{Outcome, reads, otherType, unfit, reading}
 use Rattle.layout.specs.Limits.{FailureOk}
 use Rattle.layout.specs.Theorem.{sound}
-use Rattle.answer.specs.Verdict.{refused}
+use Rattle.answer.specs.Verdict.{withoutPlace, refusedAt, refused}
 use Rattle.answer.specs.declared.Reason.{Reason}
 use Rattle.answer.specs.declared.Verdict.the-variants.{Good, Revoked, Unknown, Refused}
+use Rattle.answer.specs.declared.Place.the-variants as place
 use Rattle.answer.specs.declared.Answer.{Answer}
 use Rattle.rules.specs.declared.Question.{Question}
 use Rattle.rules.specs.Question.{inRange}
-use Rattle.rules.specs.Order.{statusIn, isFailed, tests, firstOf}
-use Rattle.rules.specs.Ruling.{caseOf, answerOf}
+use Rattle.rules.specs.Order.{isUnfit, isFailed, statusIn, misfitIn, tests, firstOf}
+use Rattle.rules.specs.Ruling.{statusWith, placeWith, caseOf, answerOf}
 use Rattle.rules.specs.Rows.{testOf}
 use Rattle.rules.specs.OrderLaws.{row-low, tests-numbered, tests-first, tests-most}
 use Rattle.rules.specs.Accepted.{Accepted, IsRefusal}
@@ -37,7 +38,18 @@ failed-status otherType e = impossible e
 failed-status (reads (failed n)) e = refl
 failed-status (reads (basic b)) e = impossible e
 
+-- the place of a response that does not fit
+unfit-place : (o : Outcome) → isUnfit o ≡ true → (p : ℕ) × (o ≡ unfit p) × (misfitIn o ≡ place.At p)
+unfit-place (unfit p) e = (p, refl, refl)
+unfit-place otherType e = impossible e
+unfit-place (reads r) e = impossible e
+
 module _ (q : Question) (name s : List ℕ) where
+  -- where row 3 applies the response does not fit
+  row-three : (n : ℕ) → n ≡ 3 → testOf n (tests (caseOf q name s)) ≡ true → (p : ℕ) × (reading s ≡ unfit p) × (misfitIn (reading s) ≡ place.At p)
+  unfolding testOf tests
+  row-three n i e = unfit-place (reading s) (rw i at e)
+
   -- where row 4 applies the response has failed
   row-four : (n : ℕ) → n ≡ 4 → testOf n (tests (caseOf q name s)) ≡ true → reading s ≡ reads (failed (statusIn (reading s)))
   unfolding testOf tests
@@ -45,22 +57,25 @@ module _ (q : Question) (name s : List ℕ) where
 
   -- where a row is the first that applies, the answer is its refusal
   refusal-is : (n : ℕ) → (n ≡ 0 → ⊥) → firstOf (tests (caseOf q name s)) ≡ n
-      → IsRefusal s (answerOf q name s) n (cond (eqb n 4) (statusIn (reading s)) 0)
-  unfolding refused
+      → IsRefusal s (answerOf q name s) n (statusWith n (reading s))
   refusal-is n z f =
-      let a : answerOf q name s ≡ refused n (cond (eqb n 4) (statusIn (reading s)) 0) = rw f at (refused-answer q name s (λ e. z (sym f ∙ e))) in
+      let a : answerOf q name s ≡ refusedAt n (statusWith n (reading s)) (placeWith n (reading s)) =
+      rw f at (refused-answer q name s (λ e. z (sym f ∙ e))) in
+      let p : answerOf q name s .place ≡ placeWith n (reading s) = ap (λ (x : Answer). x .place) a in
+      let t = tests-first (caseOf q name s) n z .0 f .0 in
       record {
         verdict = ap (λ (x : Answer). x .verdict) a;
         card = ap (λ (x : Answer). x .card) a;
         least = omega arith;
         most = rw f at (tests-most (caseOf q name s));
-        four = λ i. rw (eq-eqb n 4 i) (row-four n i (tests-first (caseOf q name s) n z .0 f .0));
+        four = λ i. rw (eq-eqb n 4 i) (row-four n i t);
         other = λ i. rw (ne-eqb n 4 i);
+        three = λ i. let (k, r, m) = row-three n i t in (k, r, p ∙ rw (eq-eqb n 3 i) m);
+        placeless = λ i. p ∙ rw (ne-eqb n 3 i);
       }
 
   -- a refusal has the number of the first row that applies
   pub refusal-number : (n status : ℕ) → answerOf q name s .verdict ≡ Refused n status → (firstOf (tests (caseOf q name s)) ≡ n) × (n ≡ 0 → ⊥)
-  unfolding refused
   refusal-number n status v = go (eqb (firstOf (tests (caseOf q name s))) 0) refl
     where
       go : (t : Bool) → eqb (firstOf (tests (caseOf q name s))) 0 ≡ t → (firstOf (tests (caseOf q name s)) ≡ n) × (n ≡ 0 → ⊥)
@@ -79,8 +94,15 @@ module _ (q : Question) (name s : List ℕ) where
       let (f, z) = refusal-number n status v in
       let r = refusal-is n z f in
       let w = sym (r .verdict) ∙ v in
-      let i : cond (eqb n 4) (statusIn (reading s)) 0 ≡ status = cc w in
+      let i : statusWith n (reading s) ≡ status = cc w in
       rw i at r
+
+  -- one with another number than 3 has no place
+  pub refusal-placeless : (n status : ℕ) → answerOf q name s .verdict ≡ Refused n status → (n ≡ 3 → ⊥)
+      → answerOf q name s ≡ withoutPlace (answerOf q name s)
+  refusal-placeless n status v z =
+      let p = refusal-whole n status v .placeless z in
+      λ i. record { verdict = answerOf q name s .verdict; card = answerOf q name s .card; place = p i }
 
   -- the answer is refusal n exactly when row n of the table applies and no earlier one does
   pub refusal-exactly : (n : ℕ)
@@ -123,5 +145,5 @@ module _ (q : Question) (name s : List ℕ) where
 
   -- a question out of range gives 1, whatever the response is
   pub out-of-range : inRange q name ≡ false → answerOf q name s ≡ refused 1 0
-  unfolding answerOf firstOf tests
+  unfolding answerOf firstOf tests refused
   out-of-range e = rw e

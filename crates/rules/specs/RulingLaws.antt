@@ -1,27 +1,27 @@
 -- What the check answers where it does not refuse: good, revoked or unknown, exactly when the response is accepted and
 -- its entry says so; and no answer that is old.
--- said-no-refusal; accepted-answer, refused-answer, accepted-exactly, accepted-verdict; good-exactly, unknown-exactly,
+-- said-no-refusal; accepted-answer, refused-answer, accepted-exactly, accepted-verdict, accepted-placeless; good-exactly, unknown-exactly,
 -- revoked-exactly; never-old. Refusals are in RefusalLaws; that no answer is about another card is in OneCardLaws.
 -- The definitions are in Ruling and Accepted. Assumes nothing.
 use Prim.Native.Nat.{ℕ, _+_, _≤_}
 use native.Mathlib.Omega.{arith}
 use mathlib.Core.Logic.{_↔_}
 use mathlib.Core.Path.{_≡_, refl, sym, ap, _∙_}
-use mathlib.Core.Bool.{Bool, true, false, cond}
+use mathlib.Core.Bool.{Bool, true, false}
 use mathlib.Core.List.{List}
 use mathlib.Core.Option.{Option}
 use lib.Dec.{eqb}
 use borrow.Author.Tests.{eqb-true, eqb-false, ne-eqb}
 use Rattle.layout.specs.Reading.{Status, good, revoked, unknown, Entry, Basic}
 use Rattle.layout.specs.Read.{reading}
-use Rattle.answer.specs.Verdict.{refused}
+use Rattle.answer.specs.Verdict.{saying, withoutPlace, refusedAt}
 use Rattle.answer.specs.declared.Reason.{Reason}
 use Rattle.answer.specs.declared.Verdict.{Verdict}
 use Rattle.answer.specs.declared.Verdict.the-variants.{Good, Revoked, Unknown}
 use Rattle.answer.specs.declared.Answer.{Answer}
 use Rattle.rules.specs.declared.Question.{Question}
-use Rattle.rules.specs.Order.{statusIn, tests, firstOf}
-use Rattle.rules.specs.Ruling.{reasonIn, said, caseOf, answerOf}
+use Rattle.rules.specs.Order.{tests, firstOf}
+use Rattle.rules.specs.Ruling.{reasonIn, said, statusWith, placeWith, caseOf, answerOf}
 use Rattle.rules.specs.Accepted.{Accepted, NoRefusal, HasTimes}
 use Rattle.rules.specs.ClearLaws.{clear-exactly}
 
@@ -61,19 +61,20 @@ times-no-refusal v this next h a b e = rw e at h
 module _ (q : Question) (name s : List ℕ) where
   -- an accepted response is answered with what its entry says, and the question's card
   pub accepted-answer : (b : Basic) (e : Entry) (next : ℕ) → Accepted q name s b e next
-      → answerOf q name s ≡ record { verdict = said (e .status) (e .thisUpdate) next; card = q .card }
+      → answerOf q name s ≡ saying (said (e .status) (e .thisUpdate) next) (q .card)
   unfolding answerOf
   accepted-answer b e next a = rw (clear-exactly q name s .1 (b, e, next, a), a .readsAs, a .only, a .ends)
 
   -- where a test applies, with the first one's number
   pub refused-answer : (firstOf (tests (caseOf q name s)) ≡ 0 → ⊥)
-      → answerOf q name s ≡ refused (firstOf (tests (caseOf q name s))) (cond (eqb (firstOf (tests (caseOf q name s))) 4) (statusIn (reading s)) 0)
+      → answerOf q name s
+      ≡ refusedAt (firstOf (tests (caseOf q name s))) (statusWith (firstOf (tests (caseOf q name s))) (reading s))
+      (placeWith (firstOf (tests (caseOf q name s))) (reading s))
   unfolding answerOf
   refused-answer z = rw (ne-eqb (firstOf (tests (caseOf q name s))) 0 z)
 
   -- the answer is no refusal exactly when the response is accepted
   pub accepted-exactly : NoRefusal (answerOf q name s .verdict) ↔ (b : Basic) × (e : Entry) × (next : ℕ) × Accepted q name s b e next
-  unfolding refused
   accepted-exactly = (
     λ h. go h (eqb (firstOf (tests (caseOf q name s))) 0) refl,
     λ (b, e, next, a). rw (accepted-answer b e next a) (said-no-refusal (e .status) (e .thisUpdate) next),
@@ -87,6 +88,10 @@ module _ (q : Question) (name s : List ℕ) where
   -- what an accepted response's verdict is
   pub accepted-verdict : (b : Basic) (e : Entry) (next : ℕ) → Accepted q name s b e next → answerOf q name s .verdict ≡ said (e .status) (e .thisUpdate) next
   accepted-verdict b e next a = ap (λ (x : Answer). x .verdict) (accepted-answer b e next a)
+
+  -- an answer that is no refusal has no place
+  pub accepted-placeless : NoRefusal (answerOf q name s .verdict) → withoutPlace (answerOf q name s) ≡ answerOf q name s
+  accepted-placeless n = let (b, e, next, a) = accepted-exactly .0 n in rw (accepted-answer b e next a)
 
   -- good exactly when the response is accepted and its entry's status is good
   pub good-exactly : (this next : ℕ)

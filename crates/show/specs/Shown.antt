@@ -48,7 +48,7 @@ signatureOf s = signatureIn s (judgedOf s)
 -- ── the entries one by one ──
 -- a refusal instead of an entry
 abbrev pub refusedEntry : Judged → Entry
-refusedEntry j = entry.Refused (refusalOf j .number) (refusalOf j .status)
+refusedEntry j = entry.Refused (refusalOf j .number) (refusalOf j .status) (refusalOf j .place)
 
 -- of entries whose octets start at a place, the one with this ordinal, counted from 0: it comes after
 -- the forms of those before it; at or past their number is the end

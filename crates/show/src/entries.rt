@@ -52,9 +52,11 @@ fn refuse_entry(judged: Judged) -> Entry
     ensures { λ r. ⌜ r ≡ refusedEntry judged ⌝ }
 {
     let refusal = read_response::refusal_of(judged);
+    let place = refusal.place;
     Entry::Refused {
         number: refusal.number,
         status: refusal.status,
+        place,
     }
 }
 

@@ -13,8 +13,8 @@ use Rattle.octets.specs.Octets.{Octets}
 use Rattle.octets.specs.OctetsLaws.{octets-drop}
 use Rattle.answer.specs.declared.Card.{Card}
 use Rattle.answer.specs.declared.Verdict.{Verdict}
-use Rattle.answer.specs.declared.Answer.{Answer}
 use Rattle.answer.specs.Card.{emptyCard}
+use Rattle.answer.specs.Verdict.{saying}
 use Rattle.fields.specs.Field.{cardIn}
 use Rattle.slip.specs.Numbers.{total, numbersForm, numbersIn}
 use Rattle.slip.specs.NumbersLaws.{Fitting, fitting-count, numbers-length, numbers-read, numbers-written}
@@ -22,9 +22,9 @@ use Rattle.slip.specs.Table.{Row, cardSize, bodySize}
 use Rattle.slip.specs.Slip.{cardOctets, bodyOf, verdictIn, cardUnder, parsedAs, Sized}
 use Rattle.slip.specs.CardOctetsLaws.{card-length, card-read, card-written}
 
--- an answer by its two parts
-pub answer-same : {v w : Verdict} {c d : Card} → v ≡ w → c ≡ d → _≡_ {A = Answer} (record { verdict = v; card = c }) (record { verdict = w; card = d })
-answer-same p q = λ i. record { verdict = p i; card = q i }
+-- an answer without a place by its two parts
+pub answer-same : {v w : Verdict} {c d : Card} → v ≡ w → c ≡ d → saying v c ≡ saying w d
+answer-same p q = λ i. saying (p i) (q i)
 
 module _ (n : ℕ) (r : Row) where
   -- the card's part of a body
@@ -64,7 +64,7 @@ module _ (n : ℕ) (r : Row) where
 
     -- a body that was written is read
     pub body-read : (r .carded ≡ true → card .size < 256) → Fitting (r .widths) vs
-        → parsedAs n r (bodyOf r card vs) ≡ record { verdict = r .says vs; card = cond (r .carded) card emptyCard }
+        → parsedAs n r (bodyOf r card vs) ≡ saying (r .says vs) (cond (r .carded) card emptyCard)
     unfolding parsedAs verdictIn
     body-read l f =
         rw (eq-eqb (length (bodyOf r card vs)) (bodySize n r) (body-length (fitting-count (r .widths) vs f)))

@@ -16,7 +16,7 @@ use Rattle.answer.specs.declared.Verdict.{Verdict}
 use Rattle.answer.specs.declared.Verdict.the-variants.{Good, Revoked, Unknown}
 use Rattle.answer.specs.declared.Answer.{Answer}
 use Rattle.answer.specs.Card.{emptyCard, allZero, fieldOk, sameHashes, sameCard}
-use Rattle.answer.specs.Verdict.{refused}
+use Rattle.answer.specs.Verdict.{saying, refused}
 use Rattle.fields.specs.Field.{fieldAt, valueAt, cardIn}
 use Rattle.slip.specs.Numbers.{total, numbersForm, numbersIn}
 use Rattle.slip.specs.Rules.{timesOk, reasonFits, errorOk, statusFits, numberOk, verdictOk}
@@ -67,7 +67,7 @@ abbrev times : List ℕ
 times = 0 ∷ 0 ∷ 0 ∷ 0 ∷ 0x42 ∷ 0x74 ∷ 0x2a ∷ 0x10 ∷ 0 ∷ 0 ∷ 0 ∷ 0 ∷ 0x42 ∷ 0x76 ∷ 0xcd ∷ 0x10 ∷ []
 
 abbrev said : Verdict → Answer
-said v = record { verdict = v; card = card }
+said v = saying v card
 
 good-written : slipOf (said (Good 1114909200 1115082000)) ≡ 1 ∷ (cardText ++ times)
 unfolding slipComputes

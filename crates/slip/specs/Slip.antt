@@ -1,4 +1,5 @@
--- The slip (document 01, "Request and slip"): one octet of kind, then a body whose length the kind fixes.
+-- The slip (document 01, "Request and slip"): one octet of kind, then a body whose length the kind fixes. A place is not
+-- on a slip (document 02, C-16): it is dropped in writing, and what is read has none.
 -- cardOctets, bodyOf, slipOf; cardFits, slipOk, slipRefusal; verdictIn, cardUnder, parsedAs, parsed, readOf;
 -- Sized, Hashed.
 -- The rows are in Table, the rules of each verdict in Rules, the laws in SlipLaws. A hash has n octets; the code uses n at 20.
@@ -13,7 +14,7 @@ use Rattle.answer.specs.declared.Card.{Card}
 use Rattle.answer.specs.declared.Verdict.{Verdict}
 use Rattle.answer.specs.declared.Answer.{Answer}
 use Rattle.answer.specs.Card.{emptyCard, cardOk, sameCard}
-use Rattle.answer.specs.Verdict.{kindOf, valuesOf, refused}
+use Rattle.answer.specs.Verdict.{kindOf, valuesOf, saying, refused}
 use Rattle.fields.specs.Field.{cardIn, cardFields}
 use Rattle.slip.specs.Numbers.{numbersForm, numbersIn}
 use Rattle.slip.specs.Rules.{verdictOk}
@@ -59,7 +60,7 @@ cardUnder n r s = cond (r .carded) (cardIn n s) emptyCard
 unfoldable pub parsedAs : ℕ → Row → List ℕ → Answer
 parsedAs n r s =
     cond (eqb (length s) (bodySize n r))
-    (record { verdict = verdictIn n r s; card = cardUnder n r s })
+    (saying (verdictIn n r s) (cardUnder n r s))
     (refused 17 0)
 
 -- what a slip says, its rules apart

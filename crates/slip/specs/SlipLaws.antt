@@ -1,4 +1,5 @@
--- Laws of slips: a slip that was written is read as its answer, and one that is read is written as the same octets.
+-- Laws of slips: a slip that was written is read as its answer without the place, and one that is read is written as the
+-- same octets.
 -- slip-length; slip-parts, read-written; written-read, read-exactly.
 -- The definitions are in Slip. A hash has n octets. Assumes nothing.
 use Prim.Native.Nat.{ℕ, suc, _<_}
@@ -15,7 +16,7 @@ use Rattle.octets.specs.SameLaws.{impossible}
 use Rattle.answer.specs.declared.Answer.{Answer}
 use Rattle.answer.specs.Card.{emptyCard, cardOk, sameCard}
 use Rattle.answer.specs.CardLaws.{field-exactly, same-card-true}
-use Rattle.answer.specs.Verdict.{kindOf, valuesOf, refused}
+use Rattle.answer.specs.Verdict.{kindOf, valuesOf, saying, withoutPlace, refused}
 use Rattle.slip.specs.Numbers.{numbersIn}
 use Rattle.slip.specs.NumbersLaws.{numbers-count}
 use Rattle.slip.specs.Rules.{verdictOk}
@@ -50,7 +51,7 @@ module _ (a : Answer) (ok : slipOk a ≡ true) where
       go false e = (λ z. impossible z, sym (same-card-true (a .card) emptyCard e))
 
   module _ (n : ℕ) (h : Hashed n a) where
-    parsed-written : parsed n (slipOf a) ≡ a
+    parsed-written : parsed n (slipOf a) ≡ withoutPlace a
     unfolding parsed slipOf
     parsed-written =
         let small : row .carded ≡ true → a .card .size < 256 =
@@ -58,9 +59,9 @@ module _ (a : Answer) (ok : slipOk a ≡ true) where
         body-read n row (a .card) (valuesOf (a .verdict)) h small (verdict-fits (a .verdict) (slip-parts .0))
         ∙ answer-same (verdict-back (a .verdict) (slip-parts .0)) (slip-parts .2)
 
-    -- a slip that was written is read as its answer
-    pub read-written : readOf n (slipOf a) ≡ a
-    unfolding readOf
+    -- a slip that was written is read as its answer without the place
+    pub read-written : readOf n (slipOf a) ≡ withoutPlace a
+    unfolding readOf slipOk
     read-written = rw (parsed-written, ok)
 
 -- 17 is no answer of a slip
@@ -74,7 +75,7 @@ module _ (n kind : ℕ) (s : List ℕ) (p : Octets s) where
   values = numbersIn (rowOf kind .widths) (drop (cardSize n (rowOf kind)) s)
 
   abbrev said : Answer
-  said = record { verdict = verdictIn n (rowOf kind) s; card = cardUnder n (rowOf kind) s }
+  said = saying (verdictIn n (rowOf kind) s) (cardUnder n (rowOf kind) s)
 
   said-written : length s ≡ bodySize n (rowOf kind) → slipOk said ≡ true → slipOf said ≡ kind ∷ s
   unfolding slipOf verdictIn
@@ -113,8 +114,9 @@ module _ (n : ℕ) (s : List ℕ) (p : Octets s) where
       go true e h = (e, parsed-back n s p e)
       go false e h = absurd (h refl)
 
-  -- octets read as an answer that keeps the rules exactly where they are its slip
-  pub read-exactly : (a : Answer) → slipOk a ≡ true → Hashed n a → readOf n s ≡ a ↔ slipOf a ≡ s
+  -- octets read as an answer without its place, where it keeps the rules, exactly where they are its slip
+  pub read-exactly : (a : Answer) → slipOk a ≡ true → Hashed n a → readOf n s ≡ withoutPlace a ↔ slipOf a ≡ s
+  unfolding slipOf slipOk
   read-exactly a ok h = (
     λ e. ap slipOf (sym e) ∙ written-read (λ (z : readOf n s ≡ refused 17 0). impossible (sym refused-not ∙ ap slipOk (sym z ∙ e) ∙ ok)) .1,
     λ e. ap (readOf n) (sym e) ∙ read-written a ok n h,

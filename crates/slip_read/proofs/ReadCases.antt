@@ -13,7 +13,7 @@ use borrow.Author.Tests.{eq-eqb, ne-eqb}
 use Rattle.answer.specs.declared.Card.{Card}
 use Rattle.answer.specs.declared.Verdict.{Verdict}
 use Rattle.answer.specs.declared.Answer.{Answer}
-use Rattle.answer.specs.Verdict.{refused}
+use Rattle.answer.specs.Verdict.{saying, refused}
 use Rattle.slip.specs.Table.{Row, rowOf, bodySize, sizeOf}
 use Rattle.slip.specs.Slip.{slipOk, verdictIn, cardUnder, parsedAs, parsed, readOf}
 use Rattle.slip.specs.BodyLaws.{answer-same}
@@ -62,7 +62,7 @@ module _ (s : List ℕ) where
         parse-room = rw whole (le-of-eq (sym body-size))
 
         pub parse-said : (v : Verdict) → v ≡ verdictIn 20 row body → (card : Card) → card ≡ cardUnder 20 row body
-            → record { verdict = v; card = card } ≡ parsed 20 s
+            → saying v card ≡ parsed 20 s
         unfolding parsedAs
         parse-said v p card q =
             let a : v ≡ verdictIn 20 row (drop 1 s) = p ∙ ap (verdictIn 20 row) whole in

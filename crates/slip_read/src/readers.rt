@@ -1,6 +1,7 @@
 // A slip as an answer.
 use answer::Answer;
 use answer::Card;
+use answer::Place;
 use answer::Reason;
 use answer::Verdict;
 ghost use mathlib.Core.Path.{_≡_};
@@ -99,7 +100,7 @@ fn card_under(kind: u8, body: &[u8]) -> Card
     answer::empty_card()
 }
 
-// What a slip says, its rules apart.
+// What a slip says, its rules apart: no slip has a place.
 fn parse(s: &[u8]) -> Answer
     ensures { λ r. ⌜ r ≡ parsed 20 (now (s .entry)) ⌝ }
 {
@@ -113,7 +114,12 @@ fn parse(s: &[u8]) -> Answer
     }
     let verdict = verdict_in(kind, &s[1..]);
     let card = card_under(kind, &s[1..]);
-    Answer { verdict, card }
+    let place = Place::Absent;
+    Answer {
+        verdict,
+        card,
+        place,
+    }
 }
 
 // The answer of a slip; refusal 17 where it breaks the slip rules.

@@ -6,6 +6,7 @@ mod parts; // parts of a response
 mod runs; // runs over a cache
 mod say; // what is written
 
+use answer::Place;
 use libc::STDIN_FILENO;
 
 // The line of the desk program.
@@ -13,6 +14,25 @@ fn say_desk(body: &[u8]) {
     let mut line = [0u8; 175];
     let n = desk_line::line_for(body, &mut line);
     say::say(&line[..n]);
+}
+
+// The place that the answer carries; - where it carries none.
+fn say_asked(question: &[u8], response: &[u8]) {
+    let answer = desk_case::ask(question, response);
+    let place = answer.place;
+    match place {
+        Place::At(p) => say::say_line(p as u64),
+        Place::Absent => say::say(b"-\n"),
+    }
+}
+
+// The same for the desk program's input: a question, and then the response to the end.
+fn say_place(body: &[u8]) {
+    if body.len() < 353 {
+        say_asked(body, &body[..0]);
+        return;
+    }
+    say_asked(&body[..353], &body[353..]);
 }
 
 fn say_case(operation: u8, body: &[u8]) {
@@ -50,6 +70,10 @@ fn say_case(operation: u8, body: &[u8]) {
     }
     if operation == 9 {
         parts::say_responder(body);
+        return;
+    }
+    if operation == 10 {
+        say_place(body);
         return;
     }
     say::say(b"-\n");

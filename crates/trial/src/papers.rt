@@ -4,6 +4,7 @@
 use crate::say;
 use answer::Answer;
 use answer::Card;
+use answer::Place;
 use answer::Reason;
 use answer::Verdict;
 
@@ -84,7 +85,12 @@ pub(crate) fn say_written(body: &[u8]) {
     }
     let verdict = verdict_in(body);
     let card = fields::card_in(&body[1..]);
-    let answer = Answer { verdict, card };
+    let place = Place::Absent;
+    let answer = Answer {
+        verdict,
+        card,
+        place,
+    };
     let size = body[89] as usize;
     let mut space = [0u8; 255];
     if size <= 255 {

@@ -75,7 +75,7 @@ pub(crate) fn say_step(body: &[u8]) {
             match says {
                 Entry::At { start, .. } => say::say_part(start, step.size),
                 Entry::End => say::say(b"end\n"),
-                Entry::Refused { number, status } => say::say_refusal(number, status),
+                Entry::Refused { number, status, .. } => say::say_refusal(number, status),
             }
         }
     } else {

@@ -9,6 +9,12 @@ pub(crate) fn say_number(n: u64) {
     io::print_decimal(STDOUT_FILENO, n);
 }
 
+// A number on a line of its own.
+pub(crate) fn say_line(n: u64) {
+    say_number(n);
+    say(b"\n");
+}
+
 // A number as so many octets in hex, at most eight.
 pub(crate) fn say_octets(n: u64, width: usize) {
     if width <= 8 {

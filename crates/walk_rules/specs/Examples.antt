@@ -12,6 +12,7 @@ use Rattle.layout.specs.Examples.{typeElement, first, hashes, signature}
 use Rattle.layout.specs.Sha1.{sha1}
 use Rattle.read_response.specs.Parts.{partsFrom, judgedAs, judgedOf}
 use Rattle.read_response.specs.Refusals.{refusalOf}
+use Rattle.answer.specs.declared.Place.the-variants as place
 use Rattle.show.specs.Shown.{entryIn, entryAs, entryOf}
 use Rattle.show.specs.declared.Entry.the-variants as entry
 use Rattle.walk_rules.specs.Step.{partIn, partOf, placeAfter, placeNext}
@@ -56,6 +57,6 @@ module _ (x : RefT (List ℕ)) where
   lentFailed = at-last x (0x30 ∷ 0x03 ∷ 0x0a ∷ 0x01 ∷ 0x06 ∷ [])
 
   -- 4, and its status, at any place, which stays
-  failed-said : (k : ℕ) → (sayOf (at lentFailed k) ≡ entry.Refused 4 6) × (handOf (at lentFailed k) ≡ []) × (movedOf (at lentFailed k) ≡ at lentFailed k)
+  failed-said : (k : ℕ) → (sayOf (at lentFailed k) ≡ entry.Refused 4 6 place.Absent) × (handOf (at lentFailed k) ≡ []) × (movedOf (at lentFailed k) ≡ at lentFailed k)
   unfolding opened judgedOf judgedAs refusalOf entryOf entryAs partIn partOf placeAfter placeNext
   failed-said k = (refl, refl, refl)

@@ -18,7 +18,7 @@ at response k = record { response = response; place = k }
 abbrev pub givenBy : Entry → List ℕ → List (List ℕ)
 givenBy (entry.At start n) part = part ∷ []
 givenBy entry.End part = []
-givenBy (entry.Refused n c) part = []
+givenBy (entry.Refused n c p) part = []
 
 -- the parts that n steps hand out, in order
 unfoldable pub handed : ℕ → Walk → List (List ℕ)

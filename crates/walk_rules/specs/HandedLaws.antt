@@ -18,6 +18,7 @@ use Rattle.layout.specs.Reading as reading
 use Rattle.layout.specs.Format.{singleResponse}
 use Rattle.layout.specs.Read.{reads, reading}
 use Rattle.read_response.specs.Parts.{judgedOf}
+use Rattle.answer.specs.declared.Place.{Place}
 use Rattle.show.specs.Shown.{refusedEntry, entryOf}
 use Rattle.show.specs.EntryLaws.{entry-refused, entry-shown, entry-past, entry-stands}
 use Rattle.read_response.specs.declared.Parts.{Parts}
@@ -62,9 +63,9 @@ module _ (r : RefT (List ℕ)) (k : ℕ) where
   unfolding partOf partIn placeNext placeAfter
   end-stays e = record { says = e; empty = rw e; none = rw e; stays = rw e }
 
-  refused-stays : (n c : ℕ) → entryOf s k ≡ entry.Refused n c → Stays r k (entry.Refused n c)
+  refused-stays : (n c : ℕ) (p : Place) → entryOf s k ≡ entry.Refused n c p → Stays r k (entry.Refused n c p)
   unfolding partOf partIn placeNext placeAfter
-  refused-stays n c e = record { says = e; empty = rw e; none = rw e; stays = rw e }
+  refused-stays n c p e = record { says = e; empty = rw e; none = rw e; stays = rw e }
 
 -- ── many steps, and then many more ──
 pub after-sum : (m n : ℕ) (w : Walk) → afterSteps (m + n) w ≡ afterSteps n (afterSteps m w)
@@ -86,7 +87,7 @@ module _ (r : RefT (List ℕ)) (k : ℕ) (x : Entry) (h : Stays r k x) where
 
 -- a refusal stands at every place
 pub refused-step : (r : RefT (List ℕ)) (k : ℕ) (j : Judged) → judgedOf (now r) ≡ j → ((t : Parts) → j ≡ judged.Basic t → ⊥) → Stays r k (refusedEntry j)
-refused-step r k j e other = refused-stays r k _ _ (entry-refused (now r) k j e other)
+refused-step r k j e other = refused-stays r k _ _ _ (entry-refused (now r) k j e other)
 
 -- ── a response that reads as a basic one ──
 module _ (r : RefT (List ℕ)) (b : reading.Basic) (o : Octets (now r)) (le : length (now r) ≤ 16384) (e : reading (now r) ≡ reads (reading.basic b)) where

@@ -14,7 +14,7 @@ use Rattle.walk_rules.specs.declared.Stepped.{Stepped}
 unfoldable pub partIn : List ℕ → Entry → List ℕ
 partIn s (entry.At start n) = take n (drop start s)
 partIn s entry.End = []
-partIn s (entry.Refused n c) = []
+partIn s (entry.Refused n c p) = []
 
 -- of the entry at a place
 unfoldable pub partOf : List ℕ → ℕ → List ℕ
@@ -24,7 +24,7 @@ partOf s k = partIn s (entryOf s k)
 unfoldable pub placeAfter : Entry → ℕ → ℕ
 placeAfter (entry.At start n) k = k + 1
 placeAfter entry.End k = k
-placeAfter (entry.Refused n c) k = k
+placeAfter (entry.Refused n c p) k = k
 
 -- the place after a step from a place
 unfoldable pub placeNext : List ℕ → ℕ → ℕ

@@ -53,12 +53,12 @@ entry-has s k start n e = go (ltb 16384 (length s)) refl e
 abbrev startIn : Entry → ℕ
 startIn (entry.At start n) = start
 startIn entry.End = 0
-startIn (entry.Refused n c) = 0
+startIn (entry.Refused n c p) = 0
 
 abbrev lenIn : Entry → ℕ
 lenIn (entry.At start n) = n
 lenIn entry.End = 0
-lenIn (entry.Refused n c) = 0
+lenIn (entry.Refused n c p) = 0
 
 module _ (s : List ℕ) (o : Octets s) (k start n : ℕ) (e : entryOf s k ≡ entry.At start n) where
   has : HasEntry s k

@@ -8,6 +8,7 @@ use mathlib.Core.List.{List, []}
 use mir.Syntax.{w64}
 use mir.Val.{Fits}
 use Rattle.octets.specs.LentLaws.{Known, known-octets}
+use Rattle.answer.specs.declared.Place.{Place}
 use Rattle.show.specs.Shown.{octetsIn, entryOf}
 use Rattle.show.specs.declared.Entry.{Entry}
 use Rattle.show.specs.declared.Entry.the-variants as entry
@@ -33,9 +34,9 @@ module _ (s : List ℕ) (k : ℕ) (x : Entry) (q : x ≡ entryOf s k) where
   unfolding walkStep placeNext placeAfter
   step-end f = rw (← q, f)
 
-  pub step-refused : (n c : ℕ) → x ≡ entry.Refused n c → step x k ≡ walkStep s k
+  pub step-refused : (n c : ℕ) (p : Place) → x ≡ entry.Refused n c p → step x k ≡ walkStep s k
   unfolding walkStep placeNext placeAfter
-  step-refused n c f = rw (← q, f)
+  step-refused n c p f = rw (← q, f)
 
 -- ── the part ──
 module _ (s : List ℕ) (x : Entry) where
@@ -47,6 +48,6 @@ module _ (s : List ℕ) (x : Entry) where
   unfolding partIn
   part-end f = rw f
 
-  pub part-refused : (n c : ℕ) → x ≡ entry.Refused n c → [] ≡ partIn s x
+  pub part-refused : (n c : ℕ) (p : Place) → x ≡ entry.Refused n c p → [] ≡ partIn s x
   unfolding partIn
-  part-refused n c f = rw f
+  part-refused n c p f = rw f

@@ -1,6 +1,7 @@
 //! The check: what a response means for one card at one time.
 
-use crate::layout::{self, Refusal};
+use crate::layout;
+use crate::misfit::Refusal;
 use crate::oid;
 use crate::question::{Card, Question};
 use crate::reading::{Algorithm, Entry, Extension, Reading, Responder, Status, Tree};
@@ -40,7 +41,7 @@ pub fn check(question: &Question, response: &[u8]) -> Answer {
     judge(question, response).unwrap_or_else(Answer::from)
 }
 
-/// The check, with the place and the words of a refusal kept.
+/// The check, with the misfit and the words of a refusal kept.
 ///
 /// 01: "The check gives the first of 1 to 16 that applies, in that order, but
 /// the envelope is judged for 3, then 4 and 5, and only then the basic

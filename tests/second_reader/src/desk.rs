@@ -2,7 +2,7 @@
 
 use crate::check::{judge, Answer};
 use crate::hex;
-use crate::layout::Refusal;
+use crate::misfit::{Misfit, Refusal};
 use crate::question::{Card, Question, CARD};
 use crate::slip;
 
@@ -78,7 +78,7 @@ pub fn answer(input: &[u8]) -> Answer {
     judged(input).unwrap_or_else(Answer::from)
 }
 
-/// What the program answers, with the place and the words of a refusal kept.
+/// What the program answers, with the misfit and the words of a refusal kept.
 pub fn judged(input: &[u8]) -> Result<Answer, Refusal> {
     match take_apart(input) {
         Some((question, response)) => judge(&question, response),
@@ -93,8 +93,13 @@ pub fn line(input: &[u8]) -> String {
     hex::write(&slip) + "\n"
 }
 
-/// The place of a misfit, counted from the response's start, where the answer
-/// is refusal 3.
+/// What does not fit, with its place counted from the response's start, where
+/// the answer is refusal 3.
+pub fn misfit(input: &[u8]) -> Option<Misfit> {
+    judged(input).err()?.misfit
+}
+
+/// The place alone.
 pub fn place(input: &[u8]) -> Option<usize> {
-    judged(input).err()?.place
+    misfit(input).map(|misfit| misfit.place)
 }

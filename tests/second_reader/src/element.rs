@@ -4,7 +4,8 @@
 //! element, the run ends with a `Broken` item that remembers the place of its
 //! fault; whether that matters, and in which order, is the judge's business.
 
-use crate::words::{FILLED, FORM, TAG};
+use crate::misfit::{Kind, Misfit};
+use crate::words::{DEPTH, FILLED, FORM, TAG};
 
 /// Deeper than the layout and a free element together can reach.  Below this
 /// level the octets are left unread: the judge refuses such depth long before
@@ -37,14 +38,13 @@ pub enum Item {
     Broken(Broken),
 }
 
-/// Octets that make no element: where they begin, the first of them, the
-/// place of the fault, and the rule that they break.
+/// Octets that make no element: where they begin, the first of them, and what
+/// is wrong with them.
 #[derive(Debug, Clone, PartialEq, Eq)]
 pub struct Broken {
     pub place: usize,
     pub first: u8,
-    pub fault: usize,
-    pub why: &'static str,
+    pub misfit: Misfit,
 }
 
 impl Item {
@@ -82,21 +82,21 @@ struct Header {
     contents: u64,
 }
 
-/// A header that cannot be read: either the tag's place or the end of the
-/// holder is at fault.
+/// A header that cannot be read: its form is refused, at the tag's place, or it
+/// is cut off, at the end of the holder.
 enum HeaderFault {
-    AtTag(&'static str),
-    AtEnd(&'static str),
+    Form(&'static str),
+    CutOff,
 }
 
 /// Reads the header at the start of `octets`, which go to the holder's end and
 /// are not empty.  The octets count in the order in which they are met.
 fn header(octets: &[u8]) -> Result<Header, HeaderFault> {
     if !tag_is_allowed(octets[0]) {
-        return Err(HeaderFault::AtTag(TAG));
+        return Err(HeaderFault::Form(TAG));
     }
     let Some(&first) = octets.get(1) else {
-        return Err(HeaderFault::AtEnd(FILLED));
+        return Err(HeaderFault::CutOff);
     };
     // 01: "A length up to 127 is one octet."
     if first < 0x80 {
@@ -106,14 +106,14 @@ fn header(octets: &[u8]) -> Result<Header, HeaderFault> {
     // most 8, the octets of a 64-bit number.
     let n = usize::from(first - 0x80);
     if n == 0 || n > 8 {
-        return Err(HeaderFault::AtTag(FORM));
+        return Err(HeaderFault::Form(FORM));
     }
     let Some(written) = octets.get(2..2 + n) else {
-        return Err(HeaderFault::AtEnd(FILLED));
+        return Err(HeaderFault::CutOff);
     };
     // The shortest form begins with an octet that is needed.
     if written[0] == 0 || (n == 1 && written[0] < 0x80) {
-        return Err(HeaderFault::AtTag(FORM));
+        return Err(HeaderFault::Form(FORM));
     }
     let contents = written.iter().fold(0u64, |sum, octet| sum * 256 + u64::from(*octet));
     Ok(Header { size: 2 + n, contents })
@@ -140,19 +140,21 @@ fn run_within(octets: &[u8], base: usize, levels: usize) -> Vec<Item> {
 }
 
 fn item_within(octets: &[u8], place: usize, levels: usize) -> Item {
-    let broken = |fault, why| Item::Broken(Broken { place, first: octets[0], fault, why });
+    let broken = |kind, fault, why| {
+        Item::Broken(Broken { place, first: octets[0], misfit: Misfit::new(kind, fault, why) })
+    };
     let holder_end = place + octets.len();
     if levels == 0 {
-        return broken(place, FILLED);
+        return broken(Kind::Limit, place, DEPTH);
     }
     let header = match header(octets) {
         Ok(header) => header,
-        Err(HeaderFault::AtTag(why)) => return broken(place, why),
-        Err(HeaderFault::AtEnd(why)) => return broken(holder_end, why),
+        Err(HeaderFault::Form(why)) => return broken(Kind::HeaderForm, place, why),
+        Err(HeaderFault::CutOff) => return broken(Kind::CutOff, holder_end, FILLED),
     };
     let room = octets.len() - header.size;
     if header.contents > room as u64 {
-        return broken(place, FILLED);
+        return broken(Kind::Overrun, place, FILLED);
     }
     let contents = &octets[header.size..header.size + header.contents as usize];
     let start = place + header.size;

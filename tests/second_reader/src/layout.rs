@@ -2,41 +2,12 @@
 //! envelope.  01, "Response layout".
 
 use crate::element::{read_run, Body, Element, Item};
+use crate::misfit::{Kind, Misfit, Refusal};
 use crate::oid;
 use crate::parts;
 use crate::reading::Basic;
 use crate::words::*;
 use crate::LONGEST_RESPONSE;
-
-/// Octets that do not fit the layout: the place, and the words of 01 or 02
-/// that they break.
-#[derive(Debug, Clone, Copy, PartialEq, Eq)]
-pub struct Misfit {
-    pub place: usize,
-    pub why: &'static str,
-}
-
-/// A refusal from 2 to 5, with the place of the misfit for 3.
-#[derive(Debug, Clone, Copy, PartialEq, Eq)]
-pub struct Refusal {
-    pub number: u8,
-    pub status: u8,
-    pub place: Option<usize>,
-    pub why: &'static str,
-}
-
-impl Refusal {
-    /// A refusal that is more than its number only in words.
-    pub fn plain(number: u8) -> Refusal {
-        Refusal { number, status: 0, place: None, why: NUMBERS[usize::from(number) - 1] }
-    }
-}
-
-impl From<Misfit> for Refusal {
-    fn from(misfit: Misfit) -> Refusal {
-        Refusal { number: 3, status: 0, place: Some(misfit.place), why: misfit.why }
-    }
-}
 
 /// The items of one holder, taken from left to right.
 pub struct Holder<'t> {
@@ -79,8 +50,8 @@ impl<'t> Holder<'t> {
     /// are met: no octet at all, the end of what holds it".
     pub fn any(&mut self, why: &'static str) -> Result<&'t Element, Misfit> {
         match self.items.split_first() {
-            None => Err(Misfit { place: self.end, why }),
-            Some((Item::Broken(broken), _)) => Err(Misfit { place: broken.fault, why: broken.why }),
+            None => Err(Misfit::new(Kind::Missing, self.end, why)),
+            Some((Item::Broken(broken), _)) => Err(broken.misfit),
             Some((Item::Whole(element), rest)) => {
                 self.items = rest;
                 Ok(element)
@@ -95,7 +66,7 @@ impl<'t> Holder<'t> {
         if element.tag == tag {
             Ok(element)
         } else {
-            Err(Misfit { place: element.place, why })
+            Err(Misfit::new(Kind::WrongTag, element.place, why))
         }
     }
 
@@ -114,7 +85,7 @@ impl<'t> Holder<'t> {
     pub fn filled(&self, why: &'static str) -> Result<(), Misfit> {
         match self.items.first() {
             None => Ok(()),
-            Some(item) => Err(Misfit { place: item.place(), why }),
+            Some(item) => Err(Misfit::new(Kind::LeftOver, item.place(), why)),
         }
     }
 }
@@ -132,8 +103,13 @@ pub fn rule(kept: bool, element: &Element, why: &'static str) -> Result<(), Misf
     if kept {
         Ok(())
     } else {
-        Err(Misfit { place: element.place, why })
+        Err(wrong_content(element, why))
     }
+}
+
+/// Contents that break a rule: their own element's tag is the place.
+pub fn wrong_content(element: &Element, why: &'static str) -> Misfit {
+    Misfit::new(Kind::WrongContent, element.place, why)
 }
 
 /// What an envelope that fits says.
@@ -170,7 +146,7 @@ pub fn envelope(response: &[u8]) -> Result<Envelope, Misfit> {
             holder.filled(STATUS_BY_NOTHING)?;
             Envelope::Failed { status: code }
         }
-        _ => return Err(Misfit { place: status.place, why: OTHER_STATUS }),
+        _ => return Err(wrong_content(status, OTHER_STATUS)),
     };
     whole.filled(NOTHING_FOLLOWS)?;
     Ok(found)
@@ -181,9 +157,7 @@ pub fn envelope(response: &[u8]) -> Result<Envelope, Misfit> {
 /// are not looked at."
 pub fn read_any_size(response: &[u8]) -> Result<Basic, Refusal> {
     match envelope(response)? {
-        Envelope::Failed { status } => {
-            Err(Refusal { number: 4, status, place: None, why: NUMBERS[3] })
-        }
+        Envelope::Failed { status } => Err(Refusal::failed(status)),
         Envelope::Response { kind, .. } if kind != oid::BASIC => Err(Refusal::plain(5)),
         Envelope::Response { inner, inner_place, .. } => Ok(parts::basic(&inner, inner_place)?),
     }

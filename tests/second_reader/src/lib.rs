@@ -7,10 +7,10 @@
 //!
 //! The order of the modules is the order of the work:
 //! octets (`element`, `oid`, `serial`, `time`), what they mean (`reading`,
-//! `layout`, `parts`), what is asked (`question`), what is answered (`check`,
-//! `shown`), what is written (`piece`, `write`, `request`, `slip`), what is kept
-//! (`cache`, `filing`), the program (`desk`), and the cases that are run against
-//! others (`cases`).
+//! `layout`, `parts`) and what does not fit (`misfit`), what is asked
+//! (`question`), what is answered (`check`, `shown`), what is written (`piece`,
+//! `write`, `request`, `slip`), what is kept (`cache`, `filing`), the program
+//! (`desk`), and the cases that are run against others (`cases`).
 
 pub mod cache;
 pub mod cases;
@@ -21,6 +21,7 @@ pub mod filing;
 pub mod hex;
 pub mod layout;
 pub mod limits;
+pub mod misfit;
 pub mod oid;
 pub mod parts;
 pub mod piece;

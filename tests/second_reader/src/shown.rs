@@ -2,7 +2,8 @@
 //! with its algorithm, the certificates, and the walk over the entries.  None of
 //! them asks a question; they refuse with 2 to 5.
 
-use crate::layout::{self, Refusal};
+use crate::layout;
+use crate::misfit::Refusal;
 use crate::reading::Span;
 
 /// 01: "The signed part is shown as the caller's own octets, header included".

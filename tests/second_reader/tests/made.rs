@@ -3,7 +3,8 @@
 
 use std::path::Path;
 
-use second_reader::cases::answers::{line, Counts};
+use second_reader::cases::answers::line;
+use second_reader::cases::counts::Counts;
 use second_reader::cases::edges;
 use second_reader::cases::generate;
 use second_reader::cases::prng::Rng;
@@ -169,7 +170,7 @@ fn answers_in_records() {
 #[test]
 fn published_and_mutated_records_have_answers() {
     let all = read_folder(&folder()).unwrap();
-    assert_eq!(all.len(), 60);
+    assert_eq!(all.len(), 63);
     for published in &all {
         for record in records(&published.octets) {
             line(&record).expect("an answer");

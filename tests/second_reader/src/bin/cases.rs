@@ -4,22 +4,24 @@ use std::io::{self, Read, Write};
 use std::path::Path;
 use std::process::ExitCode;
 
-use second_reader::cases::answers::{line, parts_line, place_line, Counts};
+use second_reader::cases::answers::{kind_line, line, parts_line, place_line};
+use second_reader::cases::counts::Counts;
 use second_reader::cases::record::{read_stream, Record, RUN};
-use second_reader::cases::{generate, published, run, runs, table};
+use second_reader::cases::{generate, misfits, published, run, runs, table};
 use second_reader::hex;
 
 const USE: &str = "cases published DIR            a stream of cases about the *.der in DIR
 cases mutated DIR SEED COUNT   the same responses with octets damaged
 cases generate SEED COUNT      cases made from a seed
 cases runs SEED COUNT          runs over one cache, made from a seed
+cases misfits DIR SEED COUNT   cases for the place: the *.der in DIR and made ones, damaged
 cases answers < STREAM         one line of answer for each case
-cases places < STREAM          the place for each desk case that gives 3, else -
+cases places < STREAM          the place for each desk's input that gives 3, else -
 cases parts < STREAM           what is shown of each desk case's response, else -
 cases counts < STREAM          how often each outcome comes
 cases only OPS SIZE < STREAM   the cases of these operations (as 2,3,4) with at most SIZE octets
 cases pick NUMBERS < STREAM    the cases of these numbers (as 4,17), counted from 0
-cases show INDEX < STREAM      one case in hex, with its answer and place; a run step by step
+cases show INDEX < STREAM      one case in hex, its answer, place and misfit; a run step by step
 cases table DIR                the table of published responses";
 
 fn main() -> ExitCode {
@@ -53,6 +55,11 @@ fn obey(words: &[&str]) -> Result<(), String> {
             let seed = number(seed)?;
             write_stream((0..number(count)?).map(|index| runs::case(seed, index)))
         }
+        ["misfits", folder, seed, count] => {
+            let all = published::read_folder(Path::new(folder))?;
+            let seed = number(seed)?;
+            write_stream((0..number(count)?).map(|index| misfits::case(&all, seed, index)))
+        }
         ["answers"] => write_lines(line),
         ["places"] => write_lines(|record| Ok(place_line(record))),
         ["parts"] => write_lines(|record| Ok(parts_line(record))),
@@ -85,6 +92,7 @@ fn obey(words: &[&str]) -> Result<(), String> {
                 print!("{}", run::text(&record.body));
             }
             println!("answer {}\nplace {}", line(record)?, place_line(record));
+            println!("misfit {}", kind_line(record));
             Ok(())
         }
         ["table", folder] => {

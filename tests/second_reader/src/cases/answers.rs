@@ -1,14 +1,10 @@
 //! What this reader answers to a record: one line of text for each.
 
-use std::collections::BTreeMap;
-
 use super::record::*;
 use super::run;
-use super::version;
-use crate::check::Answer;
 use crate::desk;
 use crate::hex;
-use crate::layout::Refusal;
+use crate::misfit::{Misfit, Refusal};
 use crate::question::{Card, CARD};
 use crate::reading::Span;
 use crate::request::write_request;
@@ -46,6 +42,7 @@ pub fn line(record: &Record) -> Result<String, String> {
         },
         (RUN, _) => run::line(body),
         (RESPONDER_ID, _) => placed_line(responder_id(body)),
+        (PLACE, _) => place_line(record),
         (operation, length) => {
             return Err(format!("no record has operation {operation} and {length} octets"));
         }
@@ -63,7 +60,7 @@ fn span_line(shown: Result<Span, Refusal>) -> String {
 /// The same, but that refusal 3 goes with the place of the misfit.
 fn placed_line(shown: Result<Span, Refusal>) -> String {
     match shown {
-        Err(Refusal { place: Some(place), .. }) => format!("3 {place}"),
+        Err(Refusal { misfit: Some(misfit), .. }) => format!("3 {}", misfit.place),
         _ => span_line(shown),
     }
 }
@@ -83,10 +80,23 @@ fn written(size: u8, write: impl FnOnce(&mut [u8]) -> Result<usize, u8>) -> Stri
     }
 }
 
-/// The place of a misfit, for a desk record whose answer is refusal 3.
+/// What does not fit, for a record with a desk's input whose answer is refusal
+/// 3.
+pub fn misfit(record: &Record) -> Option<Misfit> {
+    match record.operation {
+        DESK | PLACE => desk::misfit(&record.body),
+        _ => None,
+    }
+}
+
+/// The place of what does not fit.
 pub fn place_line(record: &Record) -> String {
-    let place = if record.operation == DESK { desk::place(&record.body) } else { None };
-    place.map_or("-".to_string(), |place| place.to_string())
+    misfit(record).map_or("-".to_string(), |misfit| misfit.place.to_string())
+}
+
+/// What is wrong at that place.
+pub fn kind_line(record: &Record) -> String {
+    misfit(record).map_or("-".to_string(), |misfit| misfit.kind.words().to_string())
 }
 
 /// What is shown of a desk record's response, each as its own operation says
@@ -99,74 +109,4 @@ pub fn parts_line(record: &Record) -> String {
     [signed_part, algorithm, signature, certificates]
         .map(|show| span_line(show(response)))
         .join(", ")
-}
-
-/// In short what an answer was, for counting.  A run has more than one.
-fn outcome(record: &Record) -> String {
-    let line = line(record).unwrap_or_else(|_| "no record".to_string());
-    let first = line.split(' ').next().unwrap_or("");
-    match record.operation {
-        DESK => match desk::answer(&record.body) {
-            Answer::Good { .. } => "01 desk: good".to_string(),
-            Answer::Revoked { .. } => "01 desk: revoked".to_string(),
-            Answer::Unknown { .. } => "01 desk: unknown".to_string(),
-            Answer::Refused { number, .. } => format!("01 desk: refusal {number:2}"),
-        },
-        SIGNED_PART if first == "0" => "02 signed part: shown".to_string(),
-        SIGNED_PART => format!("02 signed part: refusal {first}"),
-        SIGNATURE if first == "0" => "03 signature: shown".to_string(),
-        SIGNATURE => format!("03 signature: refusal {first}"),
-        WALK if first == "0" => "04 walk: entry".to_string(),
-        WALK if first == "end" => "04 walk: end".to_string(),
-        WALK => format!("04 walk: refusal {first}"),
-        REQUEST => format!("05 request: {}", written_or(&line)),
-        SLIP_READER => format!("06 slip reader: {}", written_or(&line)),
-        SLIP_WRITER => format!("07 slip writer: {}", written_or(&line)),
-        RESPONDER_ID if first == "0" => "09 responder id: shown".to_string(),
-        RESPONDER_ID => format!("09 responder id: refusal {first}"),
-        _ => "no record".to_string(),
-    }
-}
-
-fn written_or(line: &str) -> String {
-    match line.strip_prefix('r') {
-        Some(number) => format!("refusal {number}"),
-        None => "octets".to_string(),
-    }
-}
-
-/// What came of the version, where a record asks about a response that has one.
-fn version_outcome(record: &Record) -> Option<String> {
-    let body = record.body.as_slice();
-    match record.operation {
-        DESK => version::outcome(desk::response_in(body), desk::judged(body).err()),
-        RESPONDER_ID => version::outcome(body, responder_id(body).err()),
-        _ => None,
-    }
-}
-
-/// Counts of outcomes, for people.
-#[derive(Default)]
-pub struct Counts {
-    counts: BTreeMap<String, usize>,
-}
-
-impl Counts {
-    pub fn add(&mut self, record: &Record) {
-        let outcomes = match record.operation {
-            RUN => run::outcomes(&record.body),
-            _ => [Some(outcome(record)), version_outcome(record)].into_iter().flatten().collect(),
-        };
-        for outcome in outcomes {
-            *self.counts.entry(outcome).or_default() += 1;
-        }
-    }
-
-    pub fn of(&self, outcome: &str) -> usize {
-        self.counts.get(outcome).copied().unwrap_or(0)
-    }
-
-    pub fn text(&self) -> String {
-        self.counts.iter().map(|(name, count)| format!("{count:8}  {name}\n")).collect()
-    }
 }

@@ -3,6 +3,7 @@
 use super::damage;
 use super::edges;
 use super::faults;
+use super::out_of_range;
 use super::prng::Rng;
 use super::record::{Record, DESK, RESPONDER_ID, SIGNATURE, SIGNED_PART};
 use super::scene::{self, Scene};
@@ -36,7 +37,7 @@ struct Asked {
 fn desk_case(rng: &mut Rng) -> Record {
     let asked = asked(rng);
     let input = if asked.out_of_range {
-        faults::question_out_of_range(rng, &asked.scene, &asked.response)
+        out_of_range::input(rng, &asked.scene.question, &asked.response)
     } else {
         desk::put_together(&asked.scene.question, &asked.response)
     };

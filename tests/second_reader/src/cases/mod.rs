@@ -2,14 +2,21 @@
 //! (`record`), what this reader answers (`answers`), and how they are made.
 
 pub mod aim;
+pub mod aimed;
 pub mod answers;
+pub mod apart;
 pub mod caches;
 pub mod cards;
+pub mod counts;
 pub mod damage;
 pub mod edges;
+pub mod extension_lists;
 pub mod faults;
 pub mod generate;
+pub mod lists;
+pub mod misfits;
 pub mod odd;
+pub mod out_of_range;
 pub mod paths;
 pub mod prng;
 pub mod published;
@@ -19,5 +26,7 @@ pub mod run;
 pub mod runs;
 pub mod scene;
 pub mod small;
+pub mod spots;
 pub mod table;
 pub mod version;
+pub mod ways;

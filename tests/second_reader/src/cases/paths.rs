@@ -14,6 +14,14 @@ pub fn children(piece: &Piece) -> &[Piece] {
     }
 }
 
+/// The tag of a piece that has one.
+pub fn tag(piece: &Piece) -> Option<u8> {
+    match piece {
+        Piece::Plain { tag, .. } | Piece::Holds { tag, .. } => Some(*tag),
+        Piece::Raw(_) => None,
+    }
+}
+
 /// Every path, from left to right.
 pub fn all(piece: &Piece) -> Vec<Path> {
     let mut paths = vec![vec![]];

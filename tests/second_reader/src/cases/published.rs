@@ -54,6 +54,7 @@ pub fn records(response: &[u8]) -> Vec<Record> {
     records.push(Record::new(SIGNED_PART, response.to_vec()));
     records.push(Record::new(SIGNATURE, response.to_vec()));
     records.push(Record::new(RESPONDER_ID, response.to_vec()));
+    records.push(Record::new(PLACE, desk::put_together(&aims[0].question, response)));
     let count = layout::read(response).map_or(0, |basic| basic.entries.len()) as u64;
     for place in (0..=count + 1).chain([u64::MAX]) {
         records.push(Record::walk(place, response));
@@ -124,8 +125,8 @@ fn near_misses(aim: &Aim) -> Vec<Question> {
     questions
 }
 
-/// Published responses with octets damaged, under the aimed question or asked for
-/// a part.
+/// Published responses with octets damaged, under the aimed question, or asked for
+/// a part or the place of a misfit.
 pub fn mutated(from: &[Published], seed: u64, index: u64) -> Record {
     let rng = &mut Rng::for_case(seed, index);
     let mut response = rng.pick(from).octets.clone();
@@ -134,7 +135,8 @@ pub fn mutated(from: &[Published], seed: u64, index: u64) -> Record {
     match rng.below(10) {
         0 => Record::new(SIGNED_PART, response),
         1 => Record::walk(rng.below(3) as u64, &response),
-        2 | 3 => Record::new(RESPONDER_ID, response),
+        2 => Record::new(RESPONDER_ID, response),
+        3 => Record::new(PLACE, desk::put_together(&question, &response)),
         _ => Record::new(DESK, desk::put_together(&question, &response)),
     }
 }

@@ -88,7 +88,9 @@ fn row(published: &Published) -> String {
                 0 => format!("refusal {}", refusal.number),
                 status => format!("refusal {}, status {status}", refusal.number),
             };
-            let place = refusal.place.map_or(String::new(), |place| format!(" (place {place})"));
+            let place = refusal.misfit.map_or(String::new(), |misfit| {
+                format!(" (place {}, {})", misfit.place, misfit.kind.words())
+            });
             let other_hash = aim.entry.as_ref().is_some_and(|e| e.id.algorithm.oid != oid::SHA_1);
             let more = if refusal.number == 10 && other_hash {
                 ": \"An entry is for the card if its algorithm is SHA-1 (content 2B 0E 03 02 1A, \

@@ -3,7 +3,8 @@
 //! gives 3."
 
 use crate::element::{read_run, Body, Element, Item};
-use crate::layout::{self, contents, Envelope, Refusal};
+use crate::layout::{self, contents, Envelope};
+use crate::misfit::Refusal;
 use crate::oid;
 
 /// What a signed part begins with, where its first octet is A0.
@@ -27,11 +28,11 @@ pub fn outcome(response: &[u8], refused: Option<Refusal>) -> Option<String> {
         Version::Another(_) => "another",
         Version::Misformed => "misformed",
     };
-    let Some(Refusal { number, place, .. }) = refused else {
+    let Some(refusal) = refused else {
         return Some(format!("version: {kind}, accepted"));
     };
     // A place goes with refusal 3 alone.
-    Some(match (version, place) {
+    Some(match (version, refusal.place()) {
         (Version::Written(end), Some(place)) if place >= end => {
             "version: written, refusal 3 elsewhere".to_string()
         }
@@ -39,7 +40,7 @@ pub fn outcome(response: &[u8], refused: Option<Refusal>) -> Option<String> {
             "version: another, refusal 3 at its INTEGER".to_string()
         }
         (Version::Misformed, Some(_)) => "version: misformed, refusal 3".to_string(),
-        _ => format!("version: {kind}, refusal {number:2}"),
+        _ => format!("version: {kind}, refusal {:2}", refusal.number),
     })
 }
 

@@ -2,15 +2,14 @@
 //! of the library.
 #![allow(dead_code)]
 
+pub mod asked;
 pub mod room;
+pub mod small;
 
-use second_reader::check::Answer;
 use second_reader::hex;
 use second_reader::layout;
-use second_reader::question::{Card, Question};
 
-pub const M1: u64 = 1_114_909_200; // 20050501010000Z
-pub const NEXT: u64 = 1_115_082_000; // 20050503010000Z, source document 000, 6.2
+pub use asked::*;
 
 pub fn h(text: &str) -> Vec<u8> {
     hex::read(text).expect("hex")
@@ -154,6 +153,14 @@ pub fn with(change: impl FnOnce(&mut Parts)) -> Vec<u8> {
     changed.octets()
 }
 
+/// "A written version is exactly A0 03 02 01 00".
+pub const VERSION: &str = "a0 03 02 01 00";
+
+/// A response whose signed part begins with these octets.
+pub fn beginning(octets: &str) -> Vec<u8> {
+    with(|parts| parts.before = h(octets))
+}
+
 /// `depth` elements one inside the other, all constructed.
 pub fn nest(depth: usize) -> Vec<u8> {
     (0..depth).fold(vec![], |inner, _| tlv(0x30, &inner))
@@ -162,37 +169,6 @@ pub fn nest(depth: usize) -> Vec<u8> {
 /// A NULL inside `depth - 1` constructed elements.
 pub fn nest_around_primitive(depth: usize) -> Vec<u8> {
     (1..depth).fold(h("05 00"), |inner, _| tlv(0x30, &inner))
-}
-
-pub fn card() -> Card {
-    Card::new([0x11; 20], [0x22; 20], &[0x05])
-}
-
-pub fn question() -> Question {
-    Question {
-        card: card(),
-        now: M1,
-        tolerance: 0,
-        verdict: 1,
-        role: 1,
-        marks: 0,
-        signer_key_hash: [0x33; 20],
-        signer_name: vec![],
-    }
-}
-
-pub fn ask(change: impl FnOnce(&mut Question)) -> Question {
-    let mut changed = question();
-    change(&mut changed);
-    changed
-}
-
-pub fn refused(number: u8) -> Answer {
-    Answer::Refused { number, status: 0 }
-}
-
-pub fn good() -> Answer {
-    Answer::Good { card: card(), this_update: M1, next_update: NEXT }
 }
 
 /// The number of the refusal that the layout gives, or 0.
@@ -211,7 +187,7 @@ pub fn fits(response: &[u8]) -> bool {
 
 /// The place of a misfit.
 pub fn place_of(response: &[u8]) -> Option<usize> {
-    layout::read(response).err().and_then(|refusal| refusal.place)
+    layout::read(response).err().and_then(|refusal| refusal.place())
 }
 
 /// Where `part` stands in `whole`; it must stand there once.
