@@ -29,12 +29,12 @@ pub extern "C" fn desk_misfit(response: &[u8], place: &mut usize) -> usize
     ensures { λ r. ⌜ r ≡ refusalOf (judgedOf (now (response .entry))) .number ⌝ }
     ensures { λ _. ⌜ now (place .exit) ≡ placeOver (refusalOf (judgedOf (now (response .entry))) .place) (now (place .entry)) ⌝ }
 {
-    let refusal = read_response::refuse(response);
-    let misfit = refusal.place;
+    let why = read_response::refuse(response);
+    let misfit = why.place;
     if let Place::At(p) = misfit {
         *place = p;
     }
-    refusal.number as usize
+    why.number as usize
 }
 
 // Tells where a part is, and the refusal of what the response is, 0 where there is none.
