@@ -10,7 +10,7 @@ ghost use Rattle.desk_question.specs.Asked.{asked};
 ghost use Rattle.desk_c.specs.Papers.{slipNumber, sizeOr0, requestSize, requestIn};
 
 // Writes the slip of the answer to a question of 353 octets: its length, or 0 where the buffer is too
-// short. Reading that slip gives back the answer.
+// short. Reading that slip gives back the answer, without its place.
 #[no_mangle]
 pub extern "C" fn desk_check(question: &[u8], response: &[u8], slip: &mut [u8]) -> usize
     ensures { λ r. ⌜ r ≡ putSize (now (slip .entry)) (slipOf (asked (now (question .entry)) (now (response .entry)))) ⌝ }

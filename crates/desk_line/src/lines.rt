@@ -27,7 +27,7 @@ fn desk_slip(input: &[u8], out: &mut [u8]) -> usize
 }
 
 // Writes the line of an input at the start of a buffer: how many octets, or 0 where there is no room
-// for them. Reading the slip that the line is the hex of gives back the answer.
+// for them. Reading the slip that the line is the hex of gives back the answer, without its place.
 pub fn line_for(input: &[u8], out: &mut [u8]) -> usize
     ensures { λ r. ⌜ r ≡ putSize (now (out .entry)) (lineOf (now (input .entry))) ⌝ }
     ensures { λ _. ⌜ now (out .exit) ≡ putIn (now (out .entry)) 0 (lineOf (now (input .entry))) ⌝ }

@@ -1,6 +1,6 @@
 -- Elements with no key twice, where the key is the content of the first element inside: their reading
 -- gives the first place of the description's faults.
--- keyedDec, distinct-placed.
+-- keyDec, keyedDec; distinct-placed.
 -- Assumes nothing.
 use Prim.Native.Nat.{ℕ}
 use mathlib.Core.Path.{_≡_, sym, ap, _∙_}

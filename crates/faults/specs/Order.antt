@@ -1,5 +1,5 @@
 -- Places in ascending order, the first of them, and which are among them.
--- Ascending, leftmost, Among.
+-- Ascending, leftmost, Among, Least.
 -- Assumes nothing.
 use Prim.Native.Nat.{ℕ, _≤_}
 use mathlib.Core.Path.{_≡_}

@@ -1,5 +1,5 @@
 -- Laws of ascending places: how they are joined and moved on, and that the first is the least.
--- ascend-end, ascend-from, ascend-append, ascend-later, ascend-unless, ascend-cond; first-least,
+-- ascend-end, ascend-from, ascend-append, ascend-shift, ascend-later, ascend-unless, ascend-cond; first-least,
 -- least-first, first-none.
 -- Assumes nothing.
 use Prim.Native.Nat.{ℕ, _+_, _≤_}

@@ -1,5 +1,5 @@
 -- A whole list's reading finds the first fault, given that the readings of its elements do.
--- first-shift; end-finds, then-finds, perhaps-finds, only-finds, one-finds, several-finds, any-finds,
+-- first-shift, next-finds; end-finds, then-finds, perhaps-finds, only-finds, one-finds, several-finds, any-finds,
 -- distinct-finds, depending-finds; named-finds. Elements are in ItemLaws.
 -- Assumes nothing.
 use Prim.Native.Nat.{ℕ, zero, suc, _+_, _-_}

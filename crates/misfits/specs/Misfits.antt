@@ -1,7 +1,8 @@
 -- Every place where a response does not fit: those of the envelope; where it has none, those of the
 -- basic response in its string, if the status is 0 and the type the basic one. The parts are found by
 -- headers alone.
--- statusContent, typeContent, stringContent, misfits. That the reading's place is the least of them is in Theorem.
+-- statusContent, bytesContent, typeContent, stringContent; innerMisfits, orElse, misfits. That the
+-- reading's place is the least of them is in Theorem.
 -- Assumes nothing.
 use Prim.Native.Nat.{ℕ, _-_}
 use mathlib.Core.Bool.{cond}

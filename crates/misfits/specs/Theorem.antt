@@ -1,6 +1,6 @@
 -- The place of a response that does not fit is the least of its misfits, and it fits exactly where it
 -- has none.
--- reading-first, misfits-ascend; place-least, fits-none.
+-- fitRead; reading-first, misfits-ascend; place-least, fits-none.
 -- Assumes nothing.
 use Prim.Native.Nat.{ℕ, _+_, _-_}
 use native.Mathlib.Omega.{arith}
