@@ -7,6 +7,8 @@ pub mod Answers
 pub mod Refusals
 pub mod Rows
 pub mod OneCard
+pub mod Passes
+pub mod OnlySigned
 pub mod Parts
 pub mod Shown
 pub mod Numbers
