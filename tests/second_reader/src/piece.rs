@@ -49,7 +49,7 @@ impl Piece {
 
 /// The octets of pieces, one after the other.
 pub fn joined(pieces: &[Piece]) -> Vec<u8> {
-    pieces.iter().flat_map(Piece::octets).collect()
+    pieces.iter().map(Piece::octets).collect::<Vec<_>>().concat()
 }
 
 fn element(tag: u8, length: &Length, contents: &[u8]) -> Vec<u8> {

@@ -95,6 +95,13 @@ pub struct Span {
     pub len: usize,
 }
 
+impl Span {
+    /// The octets of this part, if it lies in the response.
+    pub fn cut(self, response: &[u8]) -> Option<&[u8]> {
+        response.get(self.from..self.from.checked_add(self.len)?)
+    }
+}
+
 /// A reading together with the places that are shown to the caller.
 #[derive(Debug, Clone, PartialEq, Eq)]
 pub struct Basic {

@@ -2,25 +2,21 @@
 //! places that are easily got wrong, and that what is said of a place is true of
 //! the octets there.
 
+mod common;
 use std::collections::{BTreeMap, BTreeSet};
-use std::path::Path;
 use std::sync::OnceLock;
 
+use common::pairs::published;
 use second_reader::cases::answers::misfit;
 use second_reader::cases::apart;
 use second_reader::cases::counts::Counts;
 use second_reader::cases::misfits::case;
-use second_reader::cases::published::{read_folder, Published};
 use second_reader::cases::record::{Record, PLACE};
 use second_reader::desk;
 use second_reader::element::{read_run, Body, Item};
 use second_reader::layout::{self, Envelope};
 use second_reader::misfit::{Kind, Misfit};
 use second_reader::words::{ALGORITHM, BASIC, DEPTH, EXTENSIONS, SIGNED};
-
-fn published() -> Vec<Published> {
-    read_folder(&Path::new(env!("CARGO_MANIFEST_DIR")).join("../published")).unwrap()
-}
 
 /// `cases misfits ../published 1 20000`.
 fn stream() -> &'static [Record] {

@@ -1,5 +1,6 @@
 //! `cases`: makes streams of cases and gives this reader's answers to them.
 
+use std::fs;
 use std::io::{self, Read, Write};
 use std::path::Path;
 use std::process::ExitCode;
@@ -7,7 +8,7 @@ use std::process::ExitCode;
 use second_reader::cases::answers::{kind_line, line, parts_line, place_line};
 use second_reader::cases::counts::Counts;
 use second_reader::cases::record::{read_stream, Record, RUN};
-use second_reader::cases::{generate, misfits, published, run, runs, table};
+use second_reader::cases::{generate, misfits, paired, pairs, published, run, runs, table};
 use second_reader::hex;
 
 const USE: &str = "cases published DIR            a stream of cases about the *.der in DIR
@@ -15,10 +16,12 @@ cases mutated DIR SEED COUNT   the same responses with octets damaged
 cases generate SEED COUNT      cases made from a seed
 cases runs SEED COUNT          runs over one cache, made from a seed
 cases misfits DIR SEED COUNT   cases for the place: the *.der in DIR and made ones, damaged
+cases pairs DIR SEED COUNT     pairs of responses with the same signed part, and controls
 cases answers < STREAM         one line of answer for each case
 cases places < STREAM          the place for each desk's input that gives 3, else -
 cases parts < STREAM           what is shown of each desk case's response, else -
 cases counts < STREAM          how often each outcome comes
+cases paired LINES < STREAM    judges pairs by the lines that a program wrote, in the file LINES
 cases only OPS SIZE < STREAM   the cases of these operations (as 2,3,4) with at most SIZE octets
 cases pick NUMBERS < STREAM    the cases of these numbers (as 4,17), counted from 0
 cases show INDEX < STREAM      one case in hex, its answer, place and misfit; a run step by step
@@ -60,6 +63,11 @@ fn obey(words: &[&str]) -> Result<(), String> {
             let seed = number(seed)?;
             write_stream((0..number(count)?).map(|index| misfits::case(&all, seed, index)))
         }
+        ["pairs", folder, seed, count] => {
+            let all = published::read_folder(Path::new(folder))?;
+            let seed = number(seed)?;
+            write_stream((0..number(count)?).flat_map(|index| pairs::case(&all, seed, index)))
+        }
         ["answers"] => write_lines(line),
         ["places"] => write_lines(|record| Ok(place_line(record))),
         ["parts"] => write_lines(|record| Ok(parts_line(record))),
@@ -68,6 +76,13 @@ fn obey(words: &[&str]) -> Result<(), String> {
             read_input()?.iter().for_each(|record| counts.add(record));
             print!("{}", counts.text());
             Ok(())
+        }
+        ["paired", lines] => {
+            let text = fs::read_to_string(lines).map_err(|error| format!("{lines}: {error}"))?;
+            let lines: Vec<&str> = text.lines().collect();
+            let judgement = paired::judge(&read_input()?, &lines)?;
+            print!("{}", judgement.counts.text());
+            judgement.verdict()
         }
         ["only", operations, size] => {
             let wanted = numbers(operations)?;

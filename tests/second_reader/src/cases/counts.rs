@@ -36,7 +36,12 @@ fn outcome(record: &Record) -> String {
 
 /// What the desk answers to an input.
 fn answer_in_words(input: &[u8]) -> String {
-    match desk::answer(input) {
+    in_words(&desk::answer(input))
+}
+
+/// In short what an answer is.
+pub fn in_words(answer: &Answer) -> String {
+    match answer {
         Answer::Good { .. } => "good".to_string(),
         Answer::Revoked { .. } => "revoked".to_string(),
         Answer::Unknown { .. } => "unknown".to_string(),
@@ -93,9 +98,17 @@ impl Counts {
                 .chain(misfit_outcomes(record))
                 .collect(),
         };
-        for outcome in outcomes {
-            *self.counts.entry(outcome).or_default() += 1;
-        }
+        outcomes.into_iter().for_each(|outcome| self.note(outcome));
+    }
+
+    /// Counts an outcome once.
+    pub fn note(&mut self, outcome: String) {
+        *self.counts.entry(outcome).or_default() += 1;
+    }
+
+    /// Names an outcome, so that it has a line also where it never comes.
+    pub fn name(&mut self, outcome: String) {
+        self.counts.entry(outcome).or_default();
     }
 
     pub fn of(&self, outcome: &str) -> usize {

@@ -173,7 +173,7 @@ fn tags(rng: &mut Rng, scene: &mut Scene) {
 }
 
 /// Whole responses of a size where a length changes its form.
-fn size(rng: &mut Rng, scene: &mut Scene) {
+pub fn size(rng: &mut Rng, scene: &mut Scene) {
     let octets = *rng.pick(&SIZES);
     if octets < 300 {
         // Small enough only without the rest.

@@ -5,7 +5,7 @@ use super::random;
 use super::scene::{self, Scene};
 use crate::oid;
 use crate::piece::Piece;
-use crate::reading::{Extension, Responder, Status};
+use crate::reading::{Extension, Reading, Responder, Status};
 use crate::time;
 use crate::write;
 
@@ -148,11 +148,20 @@ pub fn other_type(rng: &mut Rng, scene: &Scene) -> Piece {
 
 /// Makes the response as long as this, by its signature, as far as it goes.
 pub fn stretch(scene: &mut Scene, octets: usize) {
+    stretch_by(&mut scene.reading, octets, |reading| &mut reading.signature);
+}
+
+/// The same, by any octets that the reading has.
+pub fn stretch_by(
+    reading: &mut Reading,
+    octets: usize,
+    filler: impl Fn(&mut Reading) -> &mut Vec<u8>,
+) {
     for _ in 0..4 {
-        let now = write::response(&scene.reading).octets().len();
-        let signature = &mut scene.reading.signature;
-        let wanted = (signature.len() + octets).saturating_sub(now).max(1);
-        signature.resize(wanted, 0x5A);
+        let now = write::response(reading).octets().len();
+        let filler = filler(reading);
+        let wanted = (filler.len() + octets).saturating_sub(now).max(1);
+        filler.resize(wanted, 0x5A);
     }
 }
 

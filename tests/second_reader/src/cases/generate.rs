@@ -99,7 +99,7 @@ fn whole(scene: Scene) -> Asked {
 }
 
 /// Sometimes other faults as well, so that the order is tried.
-fn more_faults(rng: &mut Rng, scene: &mut Scene, once_in: usize) {
+pub fn more_faults(rng: &mut Rng, scene: &mut Scene, once_in: usize) {
     while rng.once_in(once_in) {
         let number = rng.between(6, 16) as u8;
         faults::put(rng, scene, number);

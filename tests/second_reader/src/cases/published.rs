@@ -76,7 +76,7 @@ pub fn records(response: &[u8]) -> Vec<Record> {
 }
 
 /// Questions next to the one that was aimed.
-fn near_misses(aim: &Aim) -> Vec<Question> {
+pub fn near_misses(aim: &Aim) -> Vec<Question> {
     let mut questions = Vec::new();
     let mut with = |change: &dyn Fn(&mut Question)| {
         let mut question = aim.question.clone();

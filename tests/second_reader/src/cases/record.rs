@@ -2,7 +2,8 @@
 //! length N (high first), then N octets of body.
 
 use crate::check::Answer;
-use crate::question::{Card, CARD};
+use crate::desk;
+use crate::question::{Card, Question, CARD};
 
 pub const DESK: u8 = 1;
 pub const SIGNED_PART: u8 = 2;
@@ -52,6 +53,13 @@ impl Record {
         assert_eq!(answer.len(), ANSWER);
         Record::new(SLIP_WRITER, [answer, &[buffer]].concat())
     }
+}
+
+/// Half of a pair: the desk's input about a response, and that response's signed
+/// part.
+pub fn half(question: &Question, response: Vec<u8>) -> [Record; 2] {
+    let input = desk::put_together(question, &response);
+    [Record::new(DESK, input), Record::new(SIGNED_PART, response)]
 }
 
 /// Takes a stream apart.

@@ -135,7 +135,7 @@ fn time_in_window(rng: &mut Rng, entry: &Entry, tolerance: u64) -> u64 {
     }
 }
 
-fn responder(rng: &mut Rng) -> Responder {
+pub fn responder(rng: &mut Rng) -> Responder {
     match rng.below(8) {
         0..=3 => Responder::ByKey(rng.octets(20)),
         4 => Responder::ByName(Tree::Run { tag: 0x30, items: vec![] }),

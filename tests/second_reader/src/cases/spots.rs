@@ -5,7 +5,7 @@ use super::prng::Rng;
 use crate::piece::Piece;
 
 /// The way to the basic response.
-const BASIC: [usize; 4] = [1, 0, 1, 0];
+pub const BASIC: [usize; 4] = [1, 0, 1, 0];
 
 /// The ways to the parts of a response of the basic type, as far as it has them.
 pub struct Spots {

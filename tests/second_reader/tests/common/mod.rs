@@ -3,6 +3,7 @@
 #![allow(dead_code)]
 
 pub mod asked;
+pub mod pairs;
 pub mod room;
 pub mod small;
 
