@@ -43,7 +43,7 @@ use Rattle.promises.specs.Passes.{Passes, passes-exactly, asked-passes-e
 
 -- ── the signed part and the signed reading ──
 
--- a signed part is no longer than its response
+-- the length of a signed part fits 64 bits: it is no longer than its response
 part-small : (s : List ℕ) (b : Basic) → Octets s → length s ≤ 16384 → reading s ≡ reads (basic b)
     → length (responseData .enc (b .signed)) < 2 ^ 64
 part-small s b o l e =
