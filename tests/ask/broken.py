@@ -1,17 +1,69 @@
 #!/usr/bin/env python3
-# broken.py FOLDER: writes responses that are refused with number 3 to FOLDER, with the lines that the
-# programs write for them. The places are written by hand, by document 02 and the readings of it in
+# broken.py FOLDER: writes responses that are refused with number 3 to FOLDER, each as NAME.der with
+# its place in NAME.place. The places are written by hand, by document 02 and the readings of it in
 # docs/DECISIONS.md; tests/ask/run holds the proved program to them too, where it is built.
 #
 # Each case has the end of the path, what is expected and what is found, as ./ask says them.
 
 import collections
+import os
 import sys
 
-from responses import (HASH, KEY, TIME, basic, changed, element, entry, envelope, extension,
-                       extensions, published, write)
-
+PUBLISHED = os.path.join(os.path.dirname(os.path.realpath(__file__)), '..', 'published')
 Case = collections.namedtuple('Case', 'octets place path expected found')
+
+
+def published(name):
+    with open(os.path.join(PUBLISHED, name), 'rb') as file:
+        return file.read()
+
+
+def changed(name, at, octet):
+    octets = published(name)
+    return octets[:at] + bytes([octet]) + octets[at + 1:]
+
+
+def element(tag, *parts):
+    """An element in DER."""
+    contents = b''.join(parts)
+    size = len(contents)
+    length = size.to_bytes(1 + (size > 255), 'big')
+    if size > 127:
+        length = bytes([0x80 + len(length)]) + length
+    return bytes([tag]) + length + contents
+
+
+TIME = element(0x18, b'20050501010000Z')
+SHA_1 = bytes.fromhex('06052b0e03021a')
+HASH = element(0x04, b'\x11' * 20)
+GOOD = bytes.fromhex('8000')
+NULL = bytes.fromhex('0500')
+KEY = element(0xA2, HASH)
+SIGNATURE = bytes.fromhex('300d06092a864886f70d01010b05000303000102')
+
+
+def entry(parameters=NULL, status=GOOD, more=b''):
+    return element(0x30, element(0x30, element(0x30, SHA_1, parameters), HASH, HASH,
+                                 bytes.fromhex('020105')), status, TIME, more)
+
+
+def extension(oid, *more):
+    return element(0x30, element(0x06, bytes.fromhex(oid)), *(more or [bytes.fromhex('0400')]))
+
+
+def extensions(*items):
+    return element(0xA1, element(0x30, *items))
+
+
+def envelope(kind, inner):
+    return element(0x30, bytes.fromhex('0a0100'),
+                   element(0xA0, element(0x30, element(0x06, bytes.fromhex(kind)),
+                                         element(0x04, inner))))
+
+
+def basic(head=KEY, entries=(), more=b'', behind=b'', time=TIME):
+    signed = element(0x30, head, time, element(0x30, *entries), more)
+    return envelope('2b0601050507300101', element(0x30, signed, SIGNATURE, behind))
 
 
 def at(octets, mark, path, expected, found, behind=False):
@@ -144,7 +196,10 @@ CASES = {
 
 def main(folder):
     for name, case in CASES.items():
-        write(folder, name, case.octets, '040300', f'3 {case.place}')
+        with open(os.path.join(folder, f'{name}.der'), 'wb') as file:
+            file.write(case.octets)
+        with open(os.path.join(folder, f'{name}.place'), 'w', encoding='ascii') as file:
+            file.write(f'{case.place}\n')
 
 
 if __name__ == '__main__':

@@ -65,7 +65,7 @@ import sys
 sys.path.insert(0, "tools")
 from asking.pictures import picture
 from asking.walk import Walk
-print(picture(Walk(bytes(16385))))' >long.svg; drawn long.svg)" "the whole response
+print(picture(Walk(bytes(16385)), 2))' >long.svg; drawn long.svg)" "the whole response
 octets 0-16384
 An OCSP response of 16385 octets: each box is an element, with its tag and its octets, counted from 0
 no box is marked as refused: the answer is not refusal 3
@@ -83,6 +83,7 @@ is "a picture that is not written" "$("$python" -S -E -B -c '
 import sys
 sys.path.insert(0, "tools")
 from asking.answers import draw_answer
+from asking.slips import slip_of
 from asking.walk import Walk
-draw_answer("nothing/a.svg", Walk(b"", 0))' 2>&1)" \
+draw_answer("nothing/a.svg", Walk(b"", 0), slip_of(bytes([4, 3, 0])))' 2>&1)" \
     "ask: the answer stands, and is not drawn: cannot write nothing/a.svg.new: No such file or directory"

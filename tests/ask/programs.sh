@@ -1,20 +1,15 @@
 # What ./ask does where a program fails or is not built.
 
 # A program that fails, or writes more than a line, gives no answer, whatever it writes first.
-for program in desk why; do
-    echo 3 >status-$program
-    none "$program fails" "ask: './run $program' failed with status 3, so there is no answer"
-    rm status-$program
-done
-echo 040406 >more-desk
-none "two lines of desk" "ask: './run desk' wrote no slip: it is not one line of hex; there is no answer"
-rm more-desk
-echo 0 1 1 >more-why
-none "two lines of why" "ask: the programs desk and why contradict each other: './run why' wrote no line of \
-numbers; there is no answer"
-rm more-why
+echo 3 >status
+none "a program that fails" "ask: './run desk' failed with status 3, so there is no answer"
+echo 0 >status
+echo 040406 >more
+none "two lines" "ask: './run desk' wrote no slip: it is not one line of hex; there is no answer"
+rm more
 
-# A program that is not built is built by 'rt check' and its name, here by a stand-in for rt.
+# A program that is not built is built by 'rt check desk', here by a stand-in for rt.
+rm target/bin/desk
 mkdir bin
 cat >bin/rt <<'END'
 #!/bin/sh
@@ -22,33 +17,55 @@ echo "proving $*"
 [ ! -e refuse ] && : >"target/bin/$2"
 END
 chmod +x bin/rt
-# The commands that the stand-ins for the programs need, without rt.
+: >refuse
+note="ask: the program desk is not built: running 'rt check desk', which may take minutes"
+path=$room/bin:$PATH
+none "a program that cannot be built" "$note
+proving check desk
+ask: 'rt check desk' failed, so nothing was asked"
+rm refuse
+tool good.der --card tests/ask/card.pem --issuer tests/ask/ca.pem >out 2>err
+is "status with a program just built" $? 0
+is "the note on building" "$(cat err)" "$note"
+rm target/bin/desk
+path=$room/nothing
+none "no rt" "ask: the program desk is not built, and the Rattle kit's command rt, \
+which builds it, is not on the PATH"
+
+# Where the program trial is missing, the answer is said without the place. Here the stand-in runs, with
+# the commands that it needs and without rt.
 mkdir commands
-for command in cat cksum cut dirname od sed tail tr; do
+for command in cat cksum dirname od sed tail tr; do
     ln -s "$(command -v $command)" commands
 done
-for program in desk why; do
-    rm target/bin/$program
-    : >refuse
-    note="ask: the program $program is not built: running 'rt check $program', which may take minutes"
-    path=$room/bin:$PATH
-    none "$program cannot be built" "$note
-proving check $program
-ask: 'rt check $program' failed, so there is no answer"
-    rm refuse
-    tool good.der --card tests/ask/card.pem --issuer tests/ask/ca.pem >out 2>err
-    is "status with $program just built" $? 0
-    is "the note on building $program" "$(cat err)" "$note"
-    rm target/bin/$program
-    path=$room/commands
-    none "no rt, for $program" "ask: the program $program is not built, and the Rattle kit's command rt, \
+path=$room/commands
+rm target/bin/trial
+: >target/bin/desk
+unplaced "no rt, for trial" "the program trial is not built, and the Rattle kit's command rt, \
 which builds it, is not on the PATH"
-    : >target/bin/$program
-done
+is "a picture without the place" "$(tool broken/status.der $asked --picture a.svg 2>err | tail -n 1)" \
+    "drawn in a.svg, without a box marked as refused"
+is "a picture without the place: its words" "$(drawn a.svg | grep 'number 3')" \
+    "refused with number 3; where it breaks is not known, so no box is marked"
+path=$room/bin:$PATH
+: >refuse
+note="ask: the program trial is not built: running 'rt check trial', which may take minutes"
+tool broken/status.der $asked >out 2>err
+is "a trial that cannot be built: status" $? 1
+is "a trial that cannot be built" "$(cat out)" "$(cat without)"
+is "a trial that cannot be built: the complaint" "$(cat err)" "$note
+proving check trial
+ask: the answer stands, and where the response breaks is not known: \
+'rt check trial' failed, so nothing was asked"
+rm refuse
+tool broken/status.der $asked >out 2>err
+is "a trial just built" "$(sed -n 3p out)" "where it breaks"
+is "a trial just built: the note" "$(cat err)" "$note"
 
 path=$room/nothing
 rm target/bin/room
 is "no rt, for a room" "$(tool room a.room 2>&1)" "ask: the program room is not built, and the \
 Rattle kit's command rt, which builds it, is not on the PATH"
 path=$PATH
+: >target/bin/desk
 : >target/bin/room

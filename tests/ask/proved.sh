@@ -1,19 +1,6 @@
-built() { # PROGRAM...: whether they are all built
-    for program; do
-        [ -e "$top/target/bin/$program" ] || return 1
-    done
-}
-
-# The proved programs desk and why: every refusal and its reason, published responses, where they break.
-if built desk why; then
-    cd "$room" || exit 2
-    reasons "$top/ask"
+# The proved program desk.
+if [ -e "$top/target/bin/desk" ]; then
     cd "$top" || exit 2
-    # The places of broken.py, under document 01's question.
-    files "$room/question" "${case01%30030a0106}"
-    for file in "$room"/broken/*.der; do
-        cat "$room/question" "$file" | ./run why | cmp - "${file%.der}.why" || failed=1
-    done
     is "document 01's case" "$(./ask "$room/unauthorized.der" --serial 05 --name-hash $ones \
         --key-hash $twos --now 2005-05-01T01:00:00Z --verdict valid --signer-key $threes --hex |
         tail -n 1)" "slip 040406"
@@ -44,6 +31,13 @@ f1b4988e19dbba1e1e72ff32f444e0b2771cd73c9e78f3d182688663127fa46ff04d84eaf8e2f75d
     }
     is "a written version 0" "$(sample 00 1)" "good: the responder says that this card is good"
     is "another version" "$(sample 01 1)" "$(./ask --slip 040300 | sed -n 1p)"
+else
+    echo "ask: the program desk is not built, so it is not tried"
+fi
+
+# The proved programs desk and trial: where responses break.
+if [ -e "$top/target/bin/desk" ] && [ -e "$top/target/bin/trial" ]; then
+    cd "$top" || exit 2
     breaks() { # RESPONSE OCTET: the line that tells where a response breaks
         is "where $1 breaks" "$(./ask "$1" --card tests/ask/card.pem --issuer tests/ask/ca.pem |
             sed -n 4p)" "  octet       $2"
@@ -58,24 +52,17 @@ f1b4988e19dbba1e1e72ff32f444e0b2771cd73c9e78f3d182688663127fa46ff04d84eaf8e2f75d
         "7 of 4235, counted from 0 (hex 0007)"
     breaks "$room/broken/day.der" "608 of 3587, counted from 0 (hex 0260)"
     is "another version: its place" "$(sample 01 4)" "  octet       39 of 383, counted from 0 (hex 0027)"
-else
-    echo "ask: desk and why are not both built, so they are not tried"
-fi
-
-# The proved program trial, which has the places of many responses in one go.
-if built trial; then
-    cd "$top" || exit 2
     "$python" -S -E tests/ask/walks.py tools ./run || failed=1
 else
-    echo "ask: the program trial is not built, so the words at its places are not tried"
+    echo "ask: desk and trial are not both built, so where responses break is not tried"
 fi
 
-# The README, whose room is made in a folder of its own.
-if built desk why room; then
+# All three, on the README, whose room is made in a folder of its own.
+if [ -e "$top/target/bin/desk" ] && [ -e "$top/target/bin/room" ] && [ -e "$top/target/bin/trial" ]; then
     mkdir "$room/readme"
     cd "$room/readme" || exit 2
     ln -s "$top/tests" tests
     transcripts "$top/ask" "$top/README.md"
 else
-    echo "ask: desk, why and room are not all built, so the README is not tried"
+    echo "ask: desk, room and trial are not all built, so the README is not tried"
 fi

@@ -42,20 +42,28 @@ cache() { # PLACE...: hex of a cache with these places, or their beginnings, and
 }
 line() { printf '%s\n' "$1" | hex; } # DIGITS: a line of them, in hex
 
-# Responses that are refused with number 3, those for every refusal, and a list of their sums.
-for made in broken reasons; do
-    mkdir $made
-    "$python" -S -E -B "$top/tests/ask/$made.py" $made
-done
-cksum broken/*.der reasons/*.der | grep -v ' 0 broken/empty' >sums
+# Responses that are refused with number 3, with their places, and a list of their sums.
+mkdir broken
+"$python" -S -E "$top/tests/ask/broken.py" broken
+cksum broken/*.der | grep -v ' 0 broken/empty' >sums
 
-# The stand-in keeps its words, and its input by them. For desk and why it writes the line that a response
-# of the list has beside it. Any other response is taken for the slip that desk writes; why then has its
-# number, with an answer entry 1, and 61 seconds with 16. For why the file answered comes before all.
-# For room it writes the file reply-NN for operation NN; where there is no such file, it is the program.
+# The stand-in takes the response for the slip to be written, and keeps its words and its input; but a
+# response that the list has is refused with number 3. For trial it writes the place of the response,
+# or the file answered where there is one. For room it writes the file reply-NN for operation NN; where
+# there is no such file, it is the program.
 cat >run <<'END'
 #!/bin/sh
 cd "$(dirname "$0")" || exit 2
+place() { # the place of the response, where the list has it
+    file=$(sed -n "s/^$(cksum <response) //p" sums)
+    [ -n "$file" ] && cat "${file%.der}.place"
+}
+if [ "$*" = trial ]; then
+    cat >input-trial
+    tail -c +359 input-trial >response
+    cat answered 2>/dev/null || place
+    exit "$(cat status-trial 2>/dev/null || echo 0)"
+fi
 if [ "$*" = room ]; then
     set -- reply-*
     [ -e "$1" ] || exec top/run room
@@ -65,32 +73,24 @@ if [ "$*" = room ]; then
     cat "reply-$operation"
     exit "$(cat "status-$operation" 2>/dev/null || echo 0)"
 fi
-echo "$*" >>words
-cat >"input-$*"
-tail -c +354 "input-$*" >response
-slip=$(od -An -v -tx1 response | tr -d ' \n')
-file=$(sed -n "s/^$(cksum <response) //p" sums)
-if [ "$*" = why ] && [ -e answered ]; then
-    cat answered
-elif [ -n "$file" ]; then
-    cat "${file%.der}.$*"
-elif [ "$*" = desk ]; then
-    echo "$slip"
+echo "$*" >words
+cat >input
+tail -c +354 input >response
+if place >/dev/null; then
+    echo 040300
 else
-    case $slip in
-    0410*) echo 16 61 ;;
-    04*) echo $((0x$(echo "$slip" | cut -c3-4))) ;;
-    *) echo "0 $((0x$(echo "$slip" | cut -c1-2))) 1" ;;
-    esac
+    od -An -v -tx1 response | tr -d ' \n'
+    echo
 fi
-cat "more-$*" 2>/dev/null
-exit "$(cat "status-$*" 2>/dev/null || echo 0)"
+cat more 2>/dev/null
+exit "$(cat status)"
 END
 chmod +x run
+echo 0 >status
 mkdir -p target/bin
 : >target/bin/desk
-: >target/bin/why
 : >target/bin/room
+: >target/bin/trial
 ln -s "$top" top
 mkdir tools
 cp "$top/ask" ask
@@ -128,7 +128,7 @@ END
 card=$(printf %s "$case01" | cut -c3-124)
 files good.der "01${card}0000000042742a10000000004276cd10" \
     unknown.der "03${card}0000000042742a10000000004276cd10" refusal-1.der 040100 refusal-6.der 040600 \
-    refusal-17.der 041100 empty.der ''
+    refusal-7.der 040700 refusal-8.der 040800 refusal-17.der 041100 empty.der ''
 good=$(hex <good.der)
 asked="--serial 05 --name-hash $ones --key-hash $twos --now 2005-05-01T01:00:00Z --tolerance 300"
 kept="the answer stands, and is not filed:"

@@ -64,7 +64,7 @@ def outside(shown):
     """The lines of an answer without those that tell where a response breaks."""
     if 'where it breaks' not in shown:
         return shown
-    return shown[:shown.index('where it breaks')] + shown[shown.index('what to do next'):]
+    return shown[:shown.index('where it breaks')] + shown[shown.index('asked with'):]
 
 
 def fault(shown, status, out, err):

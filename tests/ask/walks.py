@@ -19,7 +19,6 @@ sys.dont_write_bytecode = True
 sys.path.insert(0, sys.argv[1])
 
 import broken
-import responses
 from asking import cells
 from asking.misfits import misfit_lines
 from asking.pictures import WIDE, picture
@@ -61,8 +60,8 @@ def hold_cells(name, held, width, height):
 
 def hold_picture(name, walk):
     """The picture is XML with one refused box, says so in words, and is not too large."""
-    text = picture(walk)
-    hold(text == picture(walk), name, 'two pictures of one response')
+    text = picture(walk, 3)
+    hold(text == picture(walk, 3), name, 'two pictures of one response')
     root = xml.etree.ElementTree.fromstring(text)
     hold([root[0].tag, root[1].tag] == [f'{SVG}title', f'{SVG}desc'], name, 'no title and desc')
     refused = [box for box in root.iter(f'{SVG}rect') if box.get('class') == 'refused']
@@ -112,24 +111,23 @@ def nested(tag, depth):
     """Elements one inside the other, as deep as the longest response can have them."""
     octets = b''
     for _ in range(depth):
-        octets = responses.element(tag, octets)
+        octets = broken.element(tag, octets)
     return octets
 
 
 def odd_ones():
     """Responses that are large, deep or wide."""
-    basic, element = responses.basic, responses.element
-    return [basic(element(0xA1, nested(0x30, 3000))),
-            basic(element(0xA1, element(0x30, responses.NULL * 7000))),
-            basic(entries=[responses.entry()] * 170),
-            basic(more=responses.extensions(*[responses.extension('2a03')] * 1500)),
-            basic(behind=element(0xA0, element(0x30, b'\x30\x00' * 8000))),
+    return [broken.basic(broken.element(0xA1, nested(0x30, 3000))),
+            broken.basic(broken.element(0xA1, broken.element(0x30, broken.NULL * 7000))),
+            broken.basic(entries=[broken.entry()] * 170),
+            broken.basic(more=broken.extensions(*[broken.extension('2a03')] * 1500)),
+            broken.basic(behind=broken.element(0xA0, broken.element(0x30, b'\x30\x00' * 8000))),
             nested(0x30, 5000), b'\x30' * 16384, b'\x05\x00' * 8192]
 
 
 def tries(chance):
-    files = sorted(name for name in os.listdir(responses.PUBLISHED) if name.endswith('.der'))
-    found = [damaged(chance, responses.published(chance.choice(files))) for _ in range(DAMAGED)]
+    files = sorted(name for name in os.listdir(broken.PUBLISHED) if name.endswith('.der'))
+    found = [damaged(chance, broken.published(chance.choice(files))) for _ in range(DAMAGED)]
     found += [at_random(chance) for _ in range(RANDOM)] + odd_ones() * 10
     return [octets[:16384] for octets in found]
 

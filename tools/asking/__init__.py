@@ -7,17 +7,15 @@
 #   questions     the octets of a question, its values out of range, its rows
 #   slips         a slip's rules, and what it says in words
 #   places        the rules of a cache and its places
-#   programs      desk, why and room: built, run, and held to what they may write
+#   programs      desk, room and trial: built, run, and held to what they may write
 #   headers       the headers of elements, and what keeps one from being read
 #   layout        the layout of a response as data, with the names of RFC 6960
 #   boxes         octets of a response with a name; what is expected and found there
 #   walk          the walk by the layout to the place where a response breaks
 #   misfits       that place in words and in lines of hex
-#   evidence      what why gives with a number: held to desk's slip and the response, and worded
-#   advice        what to do next at each refusal
 #   cells         boxes as a picture shows them: labels, sizes and places
 #   pictures      the picture of a response, in SVG
-#   answers       a slip worded; a question asked of desk and why, and the answer in words
+#   answers       a slip worded; a question asked of desk, and its answer in words
 #   rooms         a room's cache and its file: made, listed, asked, filed in
 #   options       the options, their parsers, the text of --help
 #   given         what the options give: card, signer, clock, question

@@ -13,26 +13,19 @@ USAGE = '''\
        ./ask --octets | --slip HEX | --refusals | --help'''
 ABOUT = '''\
 Asks the proved program desk what an OCSP response says for one card at one time, and says the
-answer in words: good, revoked, unknown, or refused with its number, the reason as the proved
-program why tells it, and what to do next. RESPONSE.der may be - for standard input. Hex may have
-colons and spaces.'''
+answer in words: good, revoked, unknown, or refused with its number. RESPONSE.der may be - for
+standard input. Hex may have colons and spaces.'''
 MORE = '''\
 Numbers out of range, as --tolerance 3601, go to the program, which refuses them with number 1.
 With the role ca, the signer is the issuer unless told otherwise: its key hash and, with --issuer,
 its Name. A delegate or a local signer has to be told by --signer, or by --signer-key, or by
 --signer-name, or by the last two together; a key hash that is not told is then zeros.
 
-Below an answer stands the entry that it is from, counted from 1. Below a refusal stands why: values
-out of range (1); Name or key hash, by which the responder is named (7); the missing marks (8); the
-OID of a critical extension and its octet, counted from 0 in the response (9 and 12); how many
-entries there are (10), or which two are for the card (11); the time by which a rule is missed (14
-to 16). The desk's number is said only with why's own reason for it: where the two programs
-contradict each other, there is no answer.
-
-With number 3 it says where the response breaks: the first octet that does not fit, counted from 0
-in the response; the path of elements that leads there, by their names in RFC 6960, items counted
-from 1; what is expected and what is found there; and lines of hex with a mark under the octet, to
-be sent to the issuer. --picture draws the response as nested boxes, the refused one in red.
+With number 3 it says where the response breaks, as the proved program trial tells it: the first
+octet that does not fit, counted from 0 in the response; the path of elements that leads there, by
+their names in RFC 6960, items counted from 1; what is expected and what is found there; and lines
+of hex with a mark under the octet, to be sent to the issuer. --picture draws the response as nested
+boxes, the refused one in red. Where trial cannot be run, the answer is said without the place.
 
 A room's cache is a file of 64 places, each for one card's answer. --room asks it first, by the
 proved program room. Where it has no answer that counts now, RESPONSE.der is checked, and its answer
@@ -41,10 +34,9 @@ lists the places, and --new makes a new room where no file is. A file that is no
 and is kept as it is; the response's answer is said all the same. Writers hold the lock FILE.lock,
 write FILE.new and rename it. A response in a file named room is told as ./room.
 
-Exit status: 0 good, 1 any other answer, 2 no answer because of bad use, of a program that does not
-run, or of programs that contradict each other. An answer that could not be filed or drawn keeps its
-status. './ask room' ends with 0 where it lists or makes a room, with 1 where it is refused.
---octets, --refusals and --help end with 0.
+Exit status: 0 good, 1 any other answer, 2 no answer because of bad use or a program that does not
+run. An answer that could not be filed or drawn keeps its status. './ask room' ends with 0 where it
+lists or makes a room, with 1 where it is refused. --octets, --refusals and --help end with 0.
 
   ./ask answer.der --card reader.pem --issuer ca.pem --verdict valid
   ./ask answer.der --card reader.pem --issuer ca.pem --verdict valid \\

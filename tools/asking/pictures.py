@@ -17,12 +17,14 @@ STYLE = ('text{fill:#1c2733}.name{font-weight:bold}rect{stroke:#8896a5}'
          '.refused{fill:#ffd3c9;stroke:#b3261e;stroke-width:3}.refused-text{fill:#8c1d18}')
 
 
-def heading(walk):
+def heading(walk, refusal):
     """What is drawn, and whether a box of it is refused: the first lines of the legend."""
     lines = [f'An OCSP response of {count(len(walk.octets), "octet")}: each box is an element, '
              'with its tag and its octets, counted from 0']
     if walk.misfit:
         lines.append('refused with number 3: the box in red, marked "refused"')
+    elif refusal == 3:
+        lines.append('refused with number 3; where it breaks is not known, so no box is marked')
     else:
         lines.append('no box is marked as refused: the answer is not refusal 3')
     if len(walk.octets) > LONGEST:
@@ -30,9 +32,9 @@ def heading(walk):
     return lines
 
 
-def legend(walk):
+def legend(walk, refusal):
     """The lines above the boxes: the name of a row, if the line belongs to one, and its words."""
-    lines = [(None, line) for line in heading(walk)]
+    lines = [(None, line) for line in heading(walk, refusal)]
     if walk.misfit:
         for name, words in misfit_rows(walk, LEGEND - COLUMN):
             lines += [('' if number else name, line) for number, line in enumerate(words)]
@@ -73,9 +75,9 @@ def cell_text(cell, left, top, depth):
     return lines
 
 
-def picture(walk):
-    """The picture of a response."""
-    told = legend(walk)
+def picture(walk, refusal):
+    """The picture of a response that is refused with this number, if any."""
+    told = legend(walk, refusal)
     above, above_width = legend_text(told)
     cells = cells_of(walk)
     wide, high = arrange(cells, 0, 0, WIDE - 2 * MARGIN)
@@ -94,6 +96,6 @@ def picture(walk):
     return '\n'.join(lines + above + ['</svg>', ''])
 
 
-def draw(path, walk):
+def draw(path, walk, refusal):
     """Writes the picture."""
-    replace(path, picture(walk).encode('utf-8'))
+    replace(path, picture(walk, refusal).encode('utf-8'))

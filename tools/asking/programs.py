@@ -1,4 +1,5 @@
-# The programs desk, why and room: built where they are missing, run, and held to what they may write.
+# The programs desk, room and trial: built where they are missing, run, and held to what they may
+# write.
 
 import contextlib
 import os
@@ -15,8 +16,8 @@ from .values import BadUse, complain
 TOP = os.path.dirname(os.path.dirname(os.path.dirname(os.path.abspath(__file__))))
 
 # What it means that a program runs and gives nothing.
-SILENT = {'desk': 'there is no answer', 'why': 'there is no answer',
-          'room': 'the cache gives no answer'}
+SILENT = {'desk': 'there is no answer', 'room': 'the cache gives no answer',
+          'trial': 'there is no place'}
 
 
 def build(program):
@@ -32,7 +33,7 @@ def build(program):
                           stdout=subprocess.PIPE, stderr=subprocess.STDOUT)
     if done.returncode:
         sys.stderr.buffer.write(done.stdout)
-        raise BadUse(f"'rt check {program}' failed, so {SILENT[program]}")
+        raise BadUse(f"'rt check {program}' failed, so nothing was asked")
 
 
 def output_of(program, octets):
@@ -71,23 +72,18 @@ def desk(octets):
         return octets, slip_of(octets)
 
 
-@contextlib.contextmanager
-def agreeing():
-    """Tells that what `why` writes does not go with the slip of `desk`, or with the response."""
-    try:
-        yield
-    except Broken as broken:
-        raise BadUse(f'the programs desk and why contradict each other: {broken}; '
-                     f'{SILENT["why"]}') from None
+# The operation of the program `trial` that tells where an input of `desk` breaks.
+PLACE_OF = 0x0A
 
 
-def why(octets):
-    """The numbers that the program `why` writes for an input of `desk`."""
-    written = output_of('why', octets)
-    with agreeing():
-        keep(re.fullmatch(b'(0|[1-9][0-9]{0,11})( (0|[1-9][0-9]{0,11}))*\n', written),
-             "'./run why' wrote no line of numbers")
-    return [int(word) for word in written.split()]
+def misfit_place(octets, size):
+    """The place that the program `trial` gives for an input of `desk` that is refused with number
+    3, in a response of this size."""
+    written = output_of('trial', bytes([PLACE_OF]) + len(octets).to_bytes(4, 'big') + octets)
+    with written_by('trial', 'place'):
+        keep(re.fullmatch(b'(0|[1-9][0-9]{0,4})\n', written), 'it is not one line with a number')
+        keep(int(written) <= size, f'the response has no octet {int(written)}')
+    return int(written)
 
 
 # The operations of the program `room`, each with the numbers other than 0 that it may give.

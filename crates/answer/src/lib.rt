@@ -5,6 +5,8 @@
 // three.
 //
 // No function here has a requirement.
+#![tactic(auto)]
+
 mod cards; // the card
 mod verdicts; // the answer of a refusal
 

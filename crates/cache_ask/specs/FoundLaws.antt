@@ -31,7 +31,7 @@ use Rattle.slip.specs.CardOctetsLaws.{card_length, card_read}
 use Rattle.slip.specs.SlipLaws.{slip_length}
 use Rattle.cache_room.specs.Room.{held_at}
 use Rattle.cache_room.specs.FirstLaws.{held_card}
-use Rattle.cache_rules.specs.Place.{places, card_at, says_at, is_said_lem, this_of, next_of}
+use Rattle.cache_rules.specs.Place.{places, card_at, says_at, is_said, this_of, next_of}
 use Rattle.cache_rules.specs.FitLaws.{full_said}
 use Rattle.cache_rules.specs.Cache.{room_of, place_in, is_cache, told, not_held, missed_at, said_at, ask_of}
 use Rattle.cache_rules.specs.CacheLaws.{cache_exactly, room_length, place_octets, place_fit}

@@ -1,6 +1,8 @@
 // Asking the room's cache for a card (document 02, C-11): where its slip stands, and what it says at a time.
 //
 // No public function here has a requirement: what can not be answered gets its number.
+#![tactic(auto)]
+
 mod asking; // what is told of a card
 mod finding; // where a card's slip stands
 

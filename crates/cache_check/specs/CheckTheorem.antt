@@ -20,7 +20,7 @@ use Rattle.rules.specs.Accepted.{Accepted, NoRefusal}
 use Rattle.rules.specs.RulingLaws.{accepted_exactly, accepted_answer}
 use Rattle.freshness.specs.declared.Clock.{Clock}
 use Rattle.freshness.specs.Clock.{clock_ok}
-use Rattle.cache_rules.specs.Place.{places, card_at, says_at, is_said_lem, WholeCard}
+use Rattle.cache_rules.specs.Place.{places, card_at, says_at, is_said, WholeCard}
 use Rattle.cache_rules.specs.FitLaws.{held_card}
 use Rattle.cache_rules.specs.Cache.{place_in, is_cache, told, said_at, ask_of}
 use Rattle.cache_rules.specs.CacheLaws.{place_octets}
@@ -35,8 +35,8 @@ use Rattle.cache_check.specs.CheckLaws.{answer_outside, answer_inside}
 -- ── as the check ──
 
 -- what is no refusal is of kind 01 to 03
-pub no_refusal_said : (a : Answer) → NoRefusal a.verdict → is_said_lem a ≡ true
-unfolding is_said_lem
+pub no_refusal_said : (a : Answer) → NoRefusal a.verdict → is_said a ≡ true
+unfolding is_said
 no_refusal_said a h = go a.verdict refl
   where
     go : (v : Verdict) → a.verdict ≡ v → ltb (kind_of a.verdict) 4 ≡ true
@@ -57,7 +57,7 @@ module _ (q : Question) (name r s : List ℕ) (o : Octets s) (c : is_cache s ≡
   as_the_check i b e clock =
       let (basic, entry, next, a) = (accepted_exactly q name r).0 n in
       let w = accepted_answer q name r basic entry next a in
-      let d : is_said_lem (says_at (place_in s i)) ≡ true = rw e (no_refusal_said (answer_of q name r) n) in
+      let d : is_said (says_at (place_in s i)) ≡ true = rw e (no_refusal_said (answer_of q name r) n) in
       let h : card_at (place_in s i) ≡ card_octets q.card =
       held_card (place_in s i) (place_octets s i b o) d ∙ ap (λ (x : Answer). card_octets x.card) (e ∙ w) in
       go basic entry next a (e ∙ w) h (clock_ok clock) refl

@@ -16,7 +16,7 @@ use Rattle.rules.specs.RulingLaws.{accepted_exactly, accepted_answer, accepted_p
 use Rattle.desk_question.specs.FitsLaws.{answer_fits}
 use Rattle.freshness.specs.declared.Clock.{Clock}
 use Rattle.cache_rules.specs.declared.Filed.TheVariants.{Count, Refused}
-use Rattle.cache_rules.specs.Place.{says_at, is_said_lem, place_of, this_of, says_of, WholeCard}
+use Rattle.cache_rules.specs.Place.{says_at, is_said, place_of, this_of, says_of, WholeCard}
 use Rattle.cache_rules.specs.Cache.{place_in, takes, filing_refusal, filed_of, buffer_of}
 use Rattle.cache_rules.specs.Has.{Has}
 use Rattle.cache_rules.specs.RefusalLaws.{count_accepted}
@@ -81,4 +81,4 @@ module _ (q : Question) (name r : List ℕ) (o : Octets r) (n : NoRefusal (answe
   pub never_17 : (clock : Clock) (s : List ℕ) → filed_of clock s (slip_of (answer_of q name r)) ≡ Refused 17 → ⊥
   never_17 clock s e =
       impossible
-      (sym ((refused_17 clock s (slip_of (answer_of q name r))).0 e).2 ∙ ap is_said_lem check_slip ∙ no_refusal_said (answer_of q name r) n)
+      (sym ((refused_17 clock s (slip_of (answer_of q name r))).0 e).2 ∙ ap is_said check_slip ∙ no_refusal_said (answer_of q name r) n)

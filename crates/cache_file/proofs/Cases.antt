@@ -22,7 +22,7 @@ use Rattle.freshness.specs.Clock.{clock_ok}
 use Rattle.cache_room.specs.Room.{held_at, count, free_at}
 use Rattle.cache_rules.specs.declared.Filed.{Filed}
 use Rattle.cache_rules.specs.declared.Filed.TheVariants.{Count, Refused}
-use Rattle.cache_rules.specs.Place.{card_at, is_said_lem, place_of, says_of}
+use Rattle.cache_rules.specs.Place.{card_at, is_said, place_of, says_of}
 use Rattle.cache_rules.specs.PlaceLaws.{slip_most}
 use Rattle.cache_rules.specs.Cache.{is_cache, filing_refusal, filed_of, buffer_of}
 use Rattle.cache_rules.specs.CacheLaws.{cache_exactly}
@@ -115,7 +115,7 @@ module _ (clock : Clock) (s t : List ℕ) (known : (i : ℕ) → Fits w8 (get_or
   o : Octets t
   o = octets_from t (λ i l. (seen i).fits)
 
-  module _ (c : is_cache s ≡ true) (k : clock_ok clock ≡ true) (d : is_said_lem (says_of t) ≡ true)
+  module _ (c : is_cache s ≡ true) (k : clock_ok clock ≡ true) (d : is_said (says_of t) ≡ true)
       (card : List ℕ) (f : card ≡ card_at t) (i : ℕ) (e : i ≡ held_at card_at card (evenly s)) where
     where_held : i ≡ held_at card_at (card_at t) (evenly s)
     where_held = e ∙ ap (λ (x : List ℕ). held_at card_at x (evenly s)) f
@@ -163,7 +163,7 @@ module _ (clock : Clock) (s t : List ℕ) where
           pub clock_said : clock_ok clock ≡ true
           clock_said = sym f ∙ not-false b g
 
-          module _ (u : Bool) (q : u ≡ is_said_lem (says_of t)) where
+          module _ (u : Bool) (q : u ≡ is_said (says_of t)) where
             pub file_17 : not u ≡ true → Refused 17 ≡ filed_of clock s t
             file_17 v = (refused 17 (λ z. omega arith) ((refusal_exactly clock s t).2.1 (cache_said, clock_said, sym q ∙ not-true u v))).0
 
@@ -171,7 +171,7 @@ module _ (clock : Clock) (s t : List ℕ) where
             left_17 v = (refused 17 (λ z. omega arith) ((refusal_exactly clock s t).2.1 (cache_said, clock_said, sym q ∙ not-true u v))).1
 
             module _ (v : not u ≡ false) where
-              pub slip_said_lem : is_said_lem (says_of t) ≡ true
+              pub slip_said_lem : is_said (says_of t) ≡ true
               slip_said_lem = sym q ∙ not-false u v
 
               pub slip_size_lem : ((i : ℕ) → Fits w8 (get_or t i 0)) → length t ≤ 87

@@ -18,7 +18,7 @@ use Rattle.cache_room.specs.Room.{is_empty, held_at, count, is_free, free_at, ke
 use Rattle.cache_room.specs.FirstLaws.{first_same, held_card}
 use Rattle.cache_room.specs.TakenLaws.{taken_held, taken_free}
 use Rattle.cache_rules.specs.declared.Filed.TheVariants.{Count, Refused}
-use Rattle.cache_rules.specs.Place.{width, places, card_at, says_at, is_said_lem, place_of, this_of, is_stale, wins_of, says_of}
+use Rattle.cache_rules.specs.Place.{width, places, card_at, says_at, is_said, place_of, this_of, is_stale, wins_of, says_of}
 use Rattle.cache_rules.specs.PlaceLaws.{place_card, card_there, card_some}
 use Rattle.cache_rules.specs.FitLaws.{full_said}
 use Rattle.cache_rules.specs.Cache.{room_of, place_in, is_cache, takes, filing_refusal, filed_of, buffer_of}
@@ -32,7 +32,7 @@ use Rattle.cache_places.specs.Evenly.{evenly}
 use Rattle.cache_places.specs.EvenlyLaws.{even_room}
 use Rattle.cache_file.specs.Put.{held_filed, buffer_held, new_at, new_filed, new_in}
 
-module _ (clock : Clock) (s t : List ℕ) (p : Octets s) (o : Octets t) (c : is_cache s ≡ true) (k : clock_ok clock ≡ true) (d : is_said_lem (says_of t) ≡ true) where
+module _ (clock : Clock) (s t : List ℕ) (p : Octets s) (o : Octets t) (c : is_cache s ≡ true) (k : clock_ok clock ≡ true) (d : is_said (says_of t) ≡ true) where
   room : evenly s ≡ room_of s
   room = even_room s ((cache_exactly s).0 c).0
 

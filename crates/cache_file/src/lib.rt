@@ -2,12 +2,14 @@
 //
 // The public function has no requirement: what can not be filed gets its number, and the buffer is as it
 // was.
+#![tactic(auto)]
+
 ghost use Rattle.std.specs.Prelude.{◌≡◌, true, ◌*◌, ◌≤◌, ◌<◌, length};
 ghost use Rattle.octets.specs.Buffer.{put_in};
 ghost use Rattle.freshness.specs.Clock.{clock_ok};
 ghost use Rattle.cache_room.specs.Room.{count};
 ghost use Rattle.cache_rules.specs.declared.Filed.TheVariants.{Count};
-ghost use Rattle.cache_rules.specs.Place.{card_at, is_said_lem, place_of, says_of};
+ghost use Rattle.cache_rules.specs.Place.{card_at, is_said, place_of, says_of};
 ghost use Rattle.cache_rules.specs.Cache.{is_cache, filed_of, buffer_of};
 ghost use Rattle.cache_places.specs.Evenly.{evenly};
 ghost use Rattle.cache_file.specs.Put.{held_filed, buffer_held, new_filed, new_in};
@@ -66,7 +68,7 @@ fn put_new(s: &mut [u8], slip: &[u8], clock: Clock) -> Filed
 fn put_slip(s: &mut [u8], slip: &[u8], clock: Clock) -> Filed
     requires s_value { is_cache s.old ≡ true }
     requires clock_value { clock_ok clock ≡ true }
-    requires slip_value { is_said_lem (says_of slip.now) ≡ true }
+    requires slip_value { is_said (says_of slip.now) ≡ true }
     requires s_len { length s.old ≡ 5568 }
     requires slip_len_bound { length slip.now ≤ 87 }
     ensures value { result ≡ filed_of clock s.old slip.now }

@@ -8,7 +8,7 @@ use mathlib.Core.Bool.{Bool, true, false, not}
 use mathlib.Core.List.{List, []}
 use lib.ListN.{length, get_or}
 use borrow.Author.Tests.{eq-eqb, ne_eqb, not-true, not-false}
-use Rattle.hex.specs.Hex.{hex_line}
+use Rattle.hexadecimal.specs.Hex.{hex_line}
 use Rattle.freshness.specs.declared.Clock.{Clock}
 use Rattle.freshness.specs.Clock.{clock_ok}
 use Rattle.cache_rules.specs.Place.{slip_in}

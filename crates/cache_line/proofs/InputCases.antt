@@ -12,7 +12,7 @@ use lib.ListN.{length, get_or, take, drop, length-drop}
 use lib.Seq.{take_all}
 use borrow.Author.Tests.{eq-eqb, ne_eqb, ltb-false}
 use Rattle.octets.specs.Buffer.{put_in}
-use Rattle.hex.specs.Hex.{hex_line}
+use Rattle.hexadecimal.specs.Hex.{hex_line}
 use Rattle.freshness.specs.declared.Clock.{Clock}
 use Rattle.cache_line.specs.Input.{is_new, clock_in, begins_at, paper_in, cache_in}
 use Rattle.cache_line.specs.declared.Reply.{Reply}

@@ -12,7 +12,7 @@ use Rattle.octets.specs.Buffer.{put_in, put_size}
 use Rattle.octets.specs.BufferLaws.{put_in_room, put_in_short, put_in_length, splice_front}
 use Rattle.octets.specs.Number.{octets_of}
 use Rattle.octets.specs.NumberLaws.{octets_length}
-use Rattle.hex.specs.Hex.{hex_line}
+use Rattle.hexadecimal.specs.Hex.{hex_line}
 use Rattle.cache_line.specs.Reply.{numbered, accepted_reply}
 use Rattle.cache_line.specs.Wrote.{Wrote}
 

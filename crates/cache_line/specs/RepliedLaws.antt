@@ -4,7 +4,7 @@
 use Rattle.std.specs.Prelude.{ℕ, ◌≡◌, List, length}
 use Rattle.std.proofs.Common.{ap}
 use Rattle.octets.specs.Buffer.{put_in}
-use Rattle.hex.specs.Hex.{hex_line}
+use Rattle.hexadecimal.specs.Hex.{hex_line}
 use Rattle.cache_line.specs.declared.Reply.{Reply}
 use Rattle.cache_line.specs.Reply.{reply_of, cache_of, replied_to}
 use Rattle.cache_line.specs.Wrote.{Wrote}

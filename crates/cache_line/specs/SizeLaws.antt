@@ -7,8 +7,8 @@ use Rattle.octets.specs.Octets.{Octets}
 use Rattle.octets.specs.BufferLaws.{put_in_room, put_in_length}
 use Rattle.octets.specs.Number.{octets_of}
 use Rattle.octets.specs.NumberLaws.{octets_length}
-use Rattle.hex.specs.Hex.{hex_line}
-use Rattle.hex.specs.HexLaws.{line_length}
+use Rattle.hexadecimal.specs.Hex.{hex_line}
+use Rattle.hexadecimal.specs.HexLaws.{line_length}
 use Rattle.freshness.specs.declared.Clock.{Clock}
 use Rattle.freshness.specs.Clock.{clock_ok}
 use Rattle.slip.specs.Table.{good_row, revoked_row, unknown_row, refusal_row, no_row, row_of, row_in, body_size, size_of}

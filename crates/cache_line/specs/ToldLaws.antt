@@ -22,7 +22,7 @@ use Rattle.answer.specs.Verdict.{number_of, refused}
 use Rattle.slip.specs.Slip.{slip_of, Sized}
 use Rattle.cache_room.specs.Room.{held_at}
 use Rattle.cache_room.specs.FirstLaws.{held_card}
-use Rattle.cache_rules.specs.Place.{places, slip_in, card_at, says_at, is_said_lem, this_of, next_of, stale_at}
+use Rattle.cache_rules.specs.Place.{places, slip_in, card_at, says_at, is_said, this_of, next_of, stale_at}
 use Rattle.cache_rules.specs.FitLaws.{held_slip, full_said}
 use Rattle.cache_rules.specs.Cache.{room_of, place_in, is_cache, told, not_held, ask_of}
 use Rattle.cache_rules.specs.CacheLaws.{cache_exactly, place_octets, place_fit}
@@ -75,18 +75,18 @@ module _ (clock : Clock) (c s : List ℕ) where
 
   -- the reply by what is told of what was found
   found_reply_lem : Octets s → (f : Sought) → ask_found clock c s ≡ f → found_reply s f ≡ told_reply (told_in s f)
-  unfolding found_reply told_reply asked_reply told_in told not_held is_said_lem refused slip_of
+  unfolding found_reply told_reply asked_reply told_in told not_held is_said refused slip_of
   found_reply_lem o NotHeld e = refl
   found_reply_lem o (Refused n) e = refl
   found_reply_lem o (At i) e =
       let (q, b, h, n) = found_has i e in
       let r : evenly s ≡ room_of s = even_room s ((cache_exactly s).0 q).0 in
       let x : Octets (place_in s i) = place_octets s i b o in
-      let k : is_said_lem (says_at (place_in s i)) ≡ true = full_said (place_in s i) x (place_fit s i b q) (λ z. n (sym (rw r at h) ∙ z)) in
+      let k : is_said (says_at (place_in s i)) ≡ true = full_said (place_in s i) x (place_fit s i b q) (λ z. n (sym (rw r at h) ∙ z)) in
       rw r (slip (place_in s i) k (held_slip (place_in s i) x k).0)
     where
-      slip : (p : List ℕ) → is_said_lem (says_at p) ≡ true → slip_of (says_at p) ≡ slip_in p
-          → accepted_reply (slip_in p) ≡ cond (is_said_lem (says_at p)) (accepted_reply (slip_of (says_at p))) (numbered (number_of (says_at p).verdict))
+      slip : (p : List ℕ) → is_said (says_at p) ≡ true → slip_of (says_at p) ≡ slip_in p
+          → accepted_reply (slip_in p) ≡ cond (is_said (says_at p)) (accepted_reply (slip_of (says_at p))) (numbered (number_of (says_at p).verdict))
       slip p k l = rw k (ap accepted_reply (sym l))
 
 -- the line of an ask is that of what asking gives
@@ -126,7 +126,7 @@ module _ (clock : Clock) (card : Card) (s : List ℕ) (o : Octets s) (c : is_cac
   full : card_at (place_in s i) ≡ [] → ⊥
   full z = card_nonempty card (sym h.1 ∙ z)
 
-  said : is_said_lem (says_at (place_in s i)) ≡ true
+  said : is_said (says_at (place_in s i)) ≡ true
   said = here_said card s o c i h.0 h.1
 
   by_times : mark_at clock p
@@ -135,7 +135,7 @@ module _ (clock : Clock) (card : Card) (s : List ℕ) (o : Octets s) (c : is_cac
   by_times = rw (some (card_at p) full, (place_times p x said).0, late_stale p x (place_fit s i h.0 c) full clock)
 
   pub mark_tells : mark_at clock (place_in s i) ≡ told_mark (ask_of clock card s)
-  unfolding told_mark asked_mark told refused is_said_lem
+  unfolding told_mark asked_mark told refused is_said
   mark_tells =
       three clock card s o c k f i h (mark_at clock (place_in s i) ≡ told_mark (ask_of clock card s))
       (λ g q. by_times ∙ rw (lt-ltb clock.now (this_of (says_at p).verdict) g) (sym (ap told_mark q)))
@@ -148,5 +148,5 @@ module _ (clock : Clock) (card : Card) (s : List ℕ) (o : Octets s) (c : is_cac
       ∙ rw (le-ltb clock.now (this_of (says_at p).verdict) g, le-ltb (next_of (says_at p).verdict + clock.tolerance) clock.now l)
       (sym (ap told_mark q ∙ one (says_at p) said)))
     where
-      one : (a : Answer) → is_said_lem a ≡ true → told_mark (told a) ≡ 1
+      one : (a : Answer) → is_said a ≡ true → told_mark (told a) ≡ 1
       one a e = rw e

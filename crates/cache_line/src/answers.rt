@@ -1,7 +1,7 @@
 // The answer to an input: its line, and the cache that follows it.
 ghost use Rattle.std.specs.Prelude.{◌≡◌, length};
 ghost use Rattle.octets.specs.Buffer.{put_in};
-ghost use Rattle.hex.specs.Hex.{hex_line};
+ghost use Rattle.hexadecimal.specs.Hex.{hex_line};
 ghost use Rattle.cache_rules.specs.Cache.{filed_of};
 ghost use Rattle.cache_ask.specs.Found.{ask_found};
 ghost use Rattle.cache_line.specs.Reply.{numbered, new_cache, filed_reply, filed_cache, found_reply, list_reply};

@@ -7,6 +7,8 @@
 // is answered to each operation is in specs/, RoomTheorem. No input or output of its own.
 //
 // No public function here has a requirement: a buffer that is too short is left as it was.
+#![tactic(auto)]
+
 mod answers; // the answer to an input
 mod lists; // the marks of the places
 mod parts; // the parts of an input

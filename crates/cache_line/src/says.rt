@@ -1,7 +1,7 @@
 // A number as a line, the number 0 with what goes with it, and octets handed over.
 ghost use Rattle.std.specs.Prelude.{◌≤◌, length};
 ghost use Rattle.octets.specs.Number.{octets_of};
-ghost use Rattle.hex.specs.Hex.{hex_line};
+ghost use Rattle.hexadecimal.specs.Hex.{hex_line};
 ghost use Rattle.cache_line.specs.Reply.{numbered, accepted_reply};
 ghost use Rattle.cache_line.specs.Wrote.{Wrote};
 
@@ -22,7 +22,7 @@ pub(crate) fn say_number(number: u64, line: &mut [u8]) -> usize
 {
     let mut reply = [0u8; 2];
     octets::put_number(&mut reply, 0, 2, number);
-    hex::hex_line(&reply, line)
+    hexadecimal::hex_line(&reply, line)
 }
 
 // Writes the line of the number 0 and of octets after it, no more than a place has.
@@ -33,7 +33,7 @@ pub(crate) fn say_body(body: &[u8], line: &mut [u8]) -> usize
     let mut reply = [0u8; 2 + cache_rules::WIDTH];
     octets::put(&mut reply, 2, body);
     let size = 2 + body.len();
-    hex::hex_line(&reply[..size], line)
+    hexadecimal::hex_line(&reply[..size], line)
 }
 
 // Writes the line of the number 0 and a count in two digits.

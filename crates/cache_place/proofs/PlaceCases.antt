@@ -16,7 +16,7 @@ use Rattle.fields.specs.Field.{value_at}
 use Rattle.fields.specs.FieldLaws.{value_there}
 use Rattle.slip.specs.Numbers.{total}
 use Rattle.slip.specs.Table.{row_in, row_of, body_size, size_of}
-use Rattle.cache_rules.specs.Place.{slip_size, kind_at, slip_in, says_at, is_said_lem, place_ok, says_of}
+use Rattle.cache_rules.specs.Place.{slip_size, kind_at, slip_in, says_at, is_said, place_ok, says_of}
 use Rattle.cache_place.specs.Said.{slip_said}
 use Rattle.cache_place.specs.SaidLaws.{said_at}
 
@@ -80,11 +80,11 @@ module _ (p : List ℕ) where
       go (x ∷ p) h = absurd (omega arith)
 
   -- a first octet 0 is no kind of a slip
-  unsaid : get_or p 0 0 ≡ 0 → is_said_lem (says_of (take 1 p)) ≡ false
+  unsaid : get_or p 0 0 ≡ 0 → is_said (says_of (take 1 p)) ≡ false
   unfolding slip_said row_of row_in
   unsaid h = go p h
     where
-      go : (p : List ℕ) → get_or p 0 0 ≡ 0 → is_said_lem (says_of (take 1 p)) ≡ false
+      go : (p : List ℕ) → get_or p 0 0 ≡ 0 → is_said (says_of (take 1 p)) ≡ false
       go [] h = said_at []
       go (x ∷ p) h = said_at (x ∷ []) ∙ rw h
 
@@ -94,7 +94,7 @@ module _ (p : List ℕ) where
 
   pub place_zero : get_or p 0 0 ≡ 0 → (z : Bool) → z ≡ all_zero p → z ≡ place_ok p
   unfolding place_ok says_at slip_in
-  place_zero h z q = q ∙ rw (one h) (either (all_zero p) (is_said_lem (says_of (take 1 p))) (all_zero (drop 1 p)) (unsaid h))
+  place_zero h z q = q ∙ rw (one h) (either (all_zero p) (is_said (says_of (take 1 p))) (all_zero (drop 1 p)) (unsaid h))
     where
       either : (a b c : Bool) → b ≡ false → a ≡ cond a true (cond b c false)
       either true b c e = refl
@@ -117,7 +117,7 @@ module _ (p : List ℕ) where
       pub end_inside : length slip ≤ length p
       end_inside = cut.0
 
-      module _ (b : Bool) (r : b ≡ is_said_lem (says_of slip)) where
+      module _ (b : Bool) (r : b ≡ is_said (says_of slip)) where
         pub place_broken : not b ≡ true → false ≡ place_ok p
         unfolding place_ok says_at
         place_broken f = sym (rw (filled, ← e, ← r, not-true b f))

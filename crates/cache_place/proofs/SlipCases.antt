@@ -18,7 +18,7 @@ use Rattle.slip.specs.Numbers.{total}
 use Rattle.slip.specs.Rules.{times_ok, reason_fits}
 use Rattle.slip.specs.Table.{Row, reason_from, row_in, row_of, body_size, size_of, good_row, revoked_row, unknown_row}
 use Rattle.slip.specs.TableLaws.{row_good, row_revoked, row_unknown, row_refusal, row_none}
-use Rattle.cache_rules.specs.Place.{is_said_lem, says_of}
+use Rattle.cache_rules.specs.Place.{is_said, says_of}
 use Rattle.cache_place.specs.Times.{this_at, next_at}
 use Rattle.cache_place.specs.Said.{serial_fits, times_fit, end_fits, rules_fit, slip_said}
 use Rattle.cache_place.specs.SaidLaws.{said_at}
@@ -93,26 +93,26 @@ module _ (t : List ℕ) where
 
   -- ---- a slip that may be filed
 
-  pub slip_none : length t ≡ 0 → false ≡ is_said_lem (says_of t)
+  pub slip_none : length t ≡ 0 → false ≡ is_said (says_of t)
   unfolding slip_said row_of row_in
   slip_none h = go t h
     where
-      go : (t : List ℕ) → length t ≡ 0 → false ≡ is_said_lem (says_of t)
+      go : (t : List ℕ) → length t ≡ 0 → false ≡ is_said (says_of t)
       go [] h = sym (said_at [])
       go (x ∷ t) h = absurd (omega arith)
 
   module _ (b : Bool) (p : b ≡ (row_of (get_or t 0 0)).carded) where
-    pub slip_other : not b ≡ true → false ≡ is_said_lem (says_of t)
+    pub slip_other : not b ≡ true → false ≡ is_said (says_of t)
     unfolding slip_said
     slip_other h = sym (said_at t ∙ rw (← p, not-true b h))
 
     module _ (h : not b ≡ false) (size : ℕ) (q : size ≡ size_of 20 (get_or t 0 0)) where
-      pub slip_size_lem : (length t ≡ size → ⊥) → false ≡ is_said_lem (says_of t)
+      pub slip_size_lem : (length t ≡ size → ⊥) → false ≡ is_said (says_of t)
       unfolding slip_said
       slip_size_lem n = sym (said_at t ∙ rw (← p, not-false b h, ← q, ne_eqb (length t) size n))
 
       module _ (e : length t ≡ size) where
-        pub slip_rules : (r : Bool) → r ≡ rules_fit t → r ≡ is_said_lem (says_of t)
+        pub slip_rules : (r : Bool) → r ≡ rules_fit t → r ≡ is_said (says_of t)
         unfolding slip_said
         slip_rules r g = g ∙ sym (said_at t ∙ rw (← p, not-false b h, ← q, eq-eqb (length t) size e))
 

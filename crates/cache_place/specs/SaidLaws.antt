@@ -24,19 +24,19 @@ use Rattle.slip.specs.Table.{Row, reason_from, row_in, row_of, card_size, body_s
 use Rattle.slip.specs.TableLaws.{row_good, row_revoked, row_unknown, row_refusal, row_none}
 use Rattle.slip.specs.Slip.{card_fits, slip_ok, verdict_in, card_under, parsed_as, parsed, read_of}
 use Rattle.slip.specs.PlaceLaws.{octet_at, good_at, unknown_at, revoked_at}
-use Rattle.cache_rules.specs.Place.{is_said_lem, says_of}
+use Rattle.cache_rules.specs.Place.{is_said, says_of}
 use Rattle.cache_place.specs.Times.{this_at, next_at}
 use Rattle.cache_place.specs.Said.{serial_fits, times_fit, end_fits, rules_fit, slip_said}
 
 -- an answer, its rules looked at
 abbrev said : Answer → Bool
-said a = cond (slip_ok a) (is_said_lem a) false
+said a = cond (slip_ok a) (is_said a) false
 
-said_read : (t : List ℕ) → is_said_lem (says_of t) ≡ said (parsed 20 t)
-unfolding read_of is_said_lem refused
+said_read : (t : List ℕ) → is_said (says_of t) ≡ said (parsed 20 t)
+unfolding read_of is_said refused
 said_read t = go (slip_ok (parsed 20 t))
   where
-    go : (b : Bool) → is_said_lem (cond b (parsed 20 t) (refused 17 0)) ≡ cond b (is_said_lem (parsed 20 t)) false
+    go : (b : Bool) → is_said (cond b (parsed 20 t) (refused 17 0)) ≡ cond b (is_said (parsed 20 t)) false
     go true = refl
     go false = refl
 
@@ -46,11 +46,11 @@ none false = refl
 
 -- a refusal is never said
 said_refusal : (number status : ℕ) (card : Card) → said (saying (Refused number status) card) ≡ false
-unfolding is_said_lem
+unfolding is_said
 said_refusal number status card = none (slip_ok (saying (Refused number status) card))
 
 said_refused : said (refused 17 0) ≡ false
-unfolding is_said_lem refused
+unfolding is_said refused
 said_refused = none (slip_ok (refused 17 0))
 
 -- the other verdicts are, where they and the card's serial keep the rules
@@ -62,16 +62,16 @@ swap false false = refl
 
 module _ (this next : ℕ) (card : Card) where
   said_good : said (saying (Good this next) card) ≡ cond (card_ok card) (times_ok this next) false
-  unfolding slip_ok card_fits is_said_lem row_of row_in verdict_ok
+  unfolding slip_ok card_fits is_said row_of row_in verdict_ok
   said_good = swap (times_ok this next) (card_ok card)
 
   said_unknown : said (saying (Unknown this next) card) ≡ cond (card_ok card) (times_ok this next) false
-  unfolding slip_ok card_fits is_said_lem row_of row_in verdict_ok
+  unfolding slip_ok card_fits is_said row_of row_in verdict_ok
   said_unknown = swap (times_ok this next) (card_ok card)
 
   said_revoked : (at : ℕ) (reason : Reason) → said (saying (Revoked this next at reason) card)
       ≡ cond (card_ok card) (cond (times_ok this next) (cond (leb at last_second) (reason_fits reason) false) false) false
-  unfolding slip_ok card_fits is_said_lem row_of row_in verdict_ok
+  unfolding slip_ok card_fits is_said row_of row_in verdict_ok
   said_revoked at reason = swap (cond (times_ok this next) (cond (leb at last_second) (reason_fits reason) false) false) (card_ok card)
 
 -- ---- a body behind its kind
@@ -98,9 +98,9 @@ module _ (kind : ℕ) (s : List ℕ) where
   value_at_lem : (i : ℕ) → i + 8 ≤ length s → value_at s i 8 ≡ value_at t (suc i) 8
   value_at_lem i l = value_there s i 8 (lit≤ tt) l ∙ sym (value_there t (suc i) 8 (lit≤ tt) (omega arith))
 
-  times_at_lem : 77 ≤ length s → times_ok (value_at s 61 8) (value_at s 69 8) ≡ times_fit t
+  times_at : 77 ≤ length s → times_ok (value_at s 61 8) (value_at s 69 8) ≡ times_fit t
   unfolding this_at next_at
-  times_at_lem l = ap₂ times_ok (value_at_lem 61 (omega arith)) (value_at_lem 69 l)
+  times_at l = ap₂ times_ok (value_at_lem 61 (omega arith)) (value_at_lem 69 l)
 
   -- by the row of its kind
   by_row : (r : Row) → row_of kind ≡ r → r.carded ≡ true → (length s ≡ body_size 20 r → said (answer r) ≡ rules_fit t)
@@ -122,7 +122,7 @@ module _ (kind : ℕ) (s : List ℕ) where
   two_times : (a : Answer) → said a ≡ cond (card_ok (card_in 20 s)) (times_ok (value_at s 61 8) (value_at s 69 8)) false
       → (kind ≡ 2 → ⊥) → 77 ≤ length s → said a ≡ rules_fit t
   unfolding rules_fit
-  two_times a e n l = e ∙ rw (serial_at_lem (omega arith), times_at_lem l, ne_eqb kind 2 n, ← whole (times_fit t))
+  two_times a e n l = e ∙ rw (serial_at_lem (omega arith), times_at l, ne_eqb kind 2 n, ← whole (times_fit t))
 
   by_good : kind ≡ 1 → said (parsed_as 20 (row_of kind) s) ≡ slip_said t
   unfolding body_size total card_under
@@ -146,7 +146,7 @@ module _ (kind : ℕ) (s : List ℕ) where
       by_row revoked_row (row_revoked kind e) refl (λ l.
       ap (λ (v : Verdict). said (saying v (card_in 20 s))) (revoked_at s (omega arith))
       ∙ said_revoked (value_at s 61 8) (value_at s 69 8) (card_in 20 s) (value_at s 77 8) (reason_from (get_or s 85 0))
-      ∙ rw (serial_at_lem (omega arith), times_at_lem (omega arith), value_at_lem 77 (omega arith), eq-eqb kind 2 e))
+      ∙ rw (serial_at_lem (omega arith), times_at (omega arith), value_at_lem 77 (omega arith), eq-eqb kind 2 e))
 
   -- a kind without a card
   by_other : (kind ≡ 1 → ⊥) → (kind ≡ 2 → ⊥) → (kind ≡ 3 → ⊥) → said (parsed_as 20 (row_of kind) s) ≡ slip_said t
@@ -177,7 +177,7 @@ unfolding slip_said row_of row_in
 none_at = refl
 
 -- what the octets at their places have is what the slip says
-pub said_at : (t : List ℕ) → is_said_lem (says_of t) ≡ slip_said t
+pub said_at : (t : List ℕ) → is_said (says_of t) ≡ slip_said t
 unfolding parsed
 said_at [] = said_read [] ∙ said_refused ∙ sym none_at
 said_at (kind ∷ s) = said_read (kind ∷ s) ∙ by_kind kind s

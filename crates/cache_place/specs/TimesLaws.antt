@@ -23,7 +23,7 @@ use Rattle.slip.specs.Table.{row_in, row_of}
 use Rattle.slip.specs.Slip.{card_octets, body_of, slip_of}
 use Rattle.slip.specs.CardOctetsLaws.{card_length}
 use Rattle.slip.specs.SlipLaws.{slip_parts}
-use Rattle.cache_rules.specs.Place.{kind_at, slip_in, card_at, says_at, is_said_lem, place_ok, this_of, next_of, stale_at, is_stale, says_of, slip_size}
+use Rattle.cache_rules.specs.Place.{kind_at, slip_in, card_at, says_at, is_said, place_ok, this_of, next_of, stale_at, is_stale, says_of, slip_size}
 use Rattle.cache_rules.specs.PlaceLaws.{read_sized, carded, said_kind, slip_back}
 use Rattle.cache_rules.specs.FitLaws.{full_said}
 use Rattle.cache_place.specs.Times.{this_at, next_at, late_at}
@@ -94,7 +94,7 @@ times_last (Refused number status) e = (omega arith, omega arith)
 
 -- ---- a slip, and a place
 
-module _ (t : List ℕ) (o : Octets t) (h : is_said_lem (says_of t) ≡ true) (r : List ℕ) where
+module _ (t : List ℕ) (o : Octets t) (h : is_said (says_of t) ≡ true) (r : List ℕ) where
   abbrev v : Verdict
   v = (says_of t).verdict
 
@@ -126,7 +126,7 @@ module _ (t : List ℕ) (o : Octets t) (h : is_said_lem (says_of t) ≡ true) (r
           ∙ ap (λ (x : List ℕ). octets_of 8 (this_of v) ++ x) (append_assoc (octets_of 8 (next_of v)) rest r)))
 
 module _ (p : List ℕ) (o : Octets p) where
-  pub place_times : is_said_lem (says_at p) ≡ true → (this_at p ≡ this_of (says_at p).verdict) × (next_at p ≡ next_of (says_at p).verdict)
+  pub place_times : is_said (says_at p) ≡ true → (this_at p ≡ this_of (says_at p).verdict) × (next_at p ≡ next_of (says_at p).verdict)
   unfolding says_at slip_in
   place_times h =
       rw (take-append-drop (slip_size (kind_at p)) p) at

@@ -2,6 +2,8 @@
 // times.
 //
 // No public function here has a requirement: any octets, of any number, get an answer.
+#![tactic(auto)]
+
 mod slips; // a slip that may be filed, its card and its times
 mod spots; // a place that fits
 

@@ -1,7 +1,7 @@
 // A slip of kind 01 to 03, at the start of a place or alone: whether it may be filed, its card and its
 // times.
 ghost use Rattle.std.specs.Prelude.{◌≡◌, ◌≤◌, length, get_or};
-ghost use Rattle.cache_rules.specs.Place.{slip_in, card_at, is_said_lem, says_of};
+ghost use Rattle.cache_rules.specs.Place.{slip_in, card_at, is_said, says_of};
 ghost use Rattle.cache_place.specs.Times.{this_at, next_at, late_at};
 ghost use Rattle.cache_place.specs.Said.{serial_fits, end_fits, rules_fit};
 
@@ -107,7 +107,7 @@ fn rules_fit(t: &[u8]) -> bool
 
 // Whether octets are a slip that may be filed: of kind 01 to 03, and within the slip rules.
 pub fn slip_fits(t: &[u8]) -> bool
-    ensures { result ≡ is_said_lem (says_of t.now) }
+    ensures { result ≡ is_said (says_of t.now) }
 {
     if t.len() == 0 {
         return false;

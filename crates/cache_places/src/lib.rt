@@ -3,6 +3,8 @@
 //
 // A buffer is taken as 64 places of one width, its length divided by 64. No public function here has a
 // requirement: a buffer of any length gets an answer.
+#![tactic(auto)]
+
 mod rooms; // whether a buffer is a cache
 mod search; // a place, a card's place, one that may be taken; how many are filled
 

@@ -20,7 +20,7 @@ use Rattle.cache_room.specs.Room.{held_at}
 use Rattle.freshness.specs.declared.Clock.{Clock}
 use Rattle.cache_rules.specs.declared.Asked.TheVariants.{NotHeld, Says}
 use Rattle.cache_rules.specs.declared.Told.{Told}
-use Rattle.cache_rules.specs.Place.{places, card_at, says_at, is_said_lem, this_of, next_of}
+use Rattle.cache_rules.specs.Place.{places, card_at, says_at, is_said, this_of, next_of}
 use Rattle.freshness.specs.Clock.{clock_ok}
 use Rattle.cache_rules.specs.PlaceLaws.{said_kind}
 use Rattle.cache_rules.specs.Cache.{room_of, place_in, is_cache, told, not_held, missed_at, said_at, ask_of}
@@ -50,7 +50,7 @@ told_held a e =
     omega arith
 
 -- what a place says is no refusal
-pub said_refusal : (a : Answer) (n : ℕ) → is_said_lem a ≡ true → told a ≡ told (refused n 0) → ⊥
+pub said_refusal : (a : Answer) (n : ℕ) → is_said a ≡ true → told a ≡ told (refused n 0) → ⊥
 said_refusal a n h e = omega (arith, said_kind a h, refused_kind n 0, ap kind_of (told_verdict a (refused n 0) e))
 
 -- ---- by the tests in their order

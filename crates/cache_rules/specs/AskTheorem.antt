@@ -16,7 +16,7 @@ use Rattle.answer.specs.Verdict.{refused}
 use Rattle.slip.specs.Slip.{card_octets, slip_of}
 use Rattle.freshness.specs.Clock.{clock_ok}
 use Rattle.freshness.specs.declared.Clock.{Clock}
-use Rattle.cache_rules.specs.Place.{width, places, slip_size, kind_at, slip_in, says_at, is_said_lem, this_of, next_of, stale_at, is_stale, WholeCard}
+use Rattle.cache_rules.specs.Place.{width, places, slip_size, kind_at, slip_in, says_at, is_said, this_of, next_of, stale_at, is_stale, WholeCard}
 use Rattle.cache_rules.specs.Cache.{place_in, is_cache, told, not_held, said_at, ask_of}
 use Rattle.cache_rules.specs.FitLaws.{held_card, held_slip}
 use Rattle.cache_rules.specs.CacheLaws.{place_at, place_octets}
@@ -27,7 +27,7 @@ use Rattle.cache_rules.specs.OtherCardLaws.{place_own}
 
 -- a place of a cache has a card exactly if its slip is about that card
 pub has_exactly : (s : List ℕ) (i : ℕ) (card : Card) → Octets s → is_cache s ≡ true → WholeCard card → card_ok card ≡ true
-    → Has s i card ↔ (i < places) × (is_said_lem (says_at (place_in s i)) ≡ true) × ((says_at (place_in s i)).card ≡ card)
+    → Has s i card ↔ (i < places) × (is_said (says_at (place_in s i)) ≡ true) × ((says_at (place_in s i)).card ≡ card)
 has_exactly s i card o c z f = (
   λ (b, h).
       let d = held.here_said card s o c i b h in
@@ -65,7 +65,7 @@ module _ (clock : Clock) (card : Card) (s : List ℕ) (o : Octets s) (c : is_cac
         (λ g l. late g l (held.ask_late card s o c clock k f i h.0 h.1 g l))
         (λ g l. within g l (held.ask_within card s o c clock k f i h.0 h.1 g l))
 
-    is_said_lem : is_said_lem a ≡ true
+    is_said_lem : is_said a ≡ true
     is_said_lem = held.here_said card s o c i h.0 h.1
 
     -- 15 exactly if now is before the slip's thisUpdate

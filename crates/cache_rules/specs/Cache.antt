@@ -22,7 +22,7 @@ use Rattle.cache_rules.specs.declared.Filed.{Filed}
 use Rattle.cache_rules.specs.declared.Filed.TheVariants.{Count, Refused}
 use Rattle.cache_rules.specs.declared.Asked.TheVariants.{NotHeld, Says}
 use Rattle.cache_rules.specs.declared.Told.{Told}
-use Rattle.cache_rules.specs.Place.{width, places, card_at, says_at, is_said_lem, place_ok, place_of, this_of, next_of, is_stale, wins_of, says_of}
+use Rattle.cache_rules.specs.Place.{width, places, card_at, says_at, is_said, place_ok, place_of, this_of, next_of, is_stale, wins_of, says_of}
 
 -- ---- a cache
 
@@ -54,7 +54,7 @@ module _ (clock : Clock) (s t : List ℕ) where
   filing_refusal =
       cond (is_cache s)
       (cond (clock_ok clock)
-      (cond (is_said_lem (says_of t))
+      (cond (is_said (says_of t))
       (cond (ltb takes places) 0 20)
       17)
       1)

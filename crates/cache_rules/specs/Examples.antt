@@ -14,13 +14,13 @@ use Rattle.cache_room.specs.Parts.{parts_of}
 use Rattle.cache_room.specs.Room.{first_at, held_at, cards_once, count, free_at, taken_at, kept_in, filed_in}
 use Rattle.freshness.specs.declared.Clock.{Clock}
 use Rattle.cache_rules.specs.declared.Filed.TheVariants.{Count, Refused}
-use Rattle.cache_rules.specs.Place.{slip_in, card_at, says_at, is_said_lem, place_ok, place_of, stale_at, wins_of}
+use Rattle.cache_rules.specs.Place.{slip_in, card_at, says_at, is_said, place_ok, place_of, stale_at, wins_of}
 use Rattle.freshness.specs.Clock.{clock_ok}
 use Rattle.cache_rules.specs.Cache.{room_of, all_fit, is_cache, takes, filing_refusal, room_after, filed_of, buffer_of, told, not_held, missed_at, said_at, ask_of}
 
 -- what a cache computes with: a proof that says `unfolding cache_computes` opens it
 unfoldable pub cache_computes : Unit {0}
-unfolding slip.slip_computes size_of fresh_of parts_of first_at held_at cards_once count free_at taken_at kept_in filed_in slip_in card_at says_at is_said_lem place_ok place_of stale_at wins_of room_of all_fit is_cache clock_ok takes filing_refusal room_after filed_of buffer_of told not_held missed_at said_at ask_of flatten
+unfolding slip.slip_computes size_of fresh_of parts_of first_at held_at cards_once count free_at taken_at kept_in filed_in slip_in card_at says_at is_said place_ok place_of stale_at wins_of room_of all_fit is_cache clock_ok takes filing_refusal room_after filed_of buffer_of told not_held missed_at said_at ask_of flatten
 cache_computes = tt
 
 -- a card with hashes all of one octet and all 22, serial 05

@@ -19,7 +19,7 @@ use Rattle.cache_room.specs.CountLaws.{count_more, count_same}
 use Rattle.freshness.specs.Clock.{clock_ok}
 use Rattle.freshness.specs.declared.Clock.{Clock}
 use Rattle.cache_rules.specs.declared.Filed.TheVariants.{Count}
-use Rattle.cache_rules.specs.Place.{width, places, card_at, is_said_lem, place_ok, place_of, is_stale, wins_of, says_of}
+use Rattle.cache_rules.specs.Place.{width, places, card_at, is_said, place_ok, place_of, is_stale, wins_of, says_of}
 use Rattle.cache_rules.specs.PlaceLaws.{place_length, place_card, place_fits, card_some}
 use Rattle.cache_rules.specs.Cache.{room_of, place_in, all_fit, is_cache, takes, filing_refusal, room_after, filed_of, buffer_of}
 use Rattle.cache_rules.specs.CacheLaws.{fit_at, fit_set, cache_exactly, room_length}
@@ -36,7 +36,7 @@ module _ (clock : Clock) (s t : List ℕ) (e : filing_refusal clock s t ≡ 0) w
   pub was_clock : clock_ok clock ≡ true
   was_clock = ((refusal_exactly clock s t).4.0 e).1
 
-  pub was_said : is_said_lem (says_of t) ≡ true
+  pub was_said : is_said (says_of t) ≡ true
   was_said = ((refusal_exactly clock s t).4.0 e).2
 
   pub takes_one : takes clock s t < places

@@ -18,7 +18,7 @@ use Rattle.slip.specs.RulesLaws.{both}
 use Rattle.slip.specs.Table.{row_in, row_of}
 use Rattle.slip.specs.Slip.{card_octets, slip_of, slip_ok}
 use Rattle.slip.specs.SlipLaws.{read_written}
-use Rattle.cache_rules.specs.Place.{width, kind_at, slip_in, card_at, says_at, is_said_lem, place_ok, place_of, this_of, next_of, says_of, slip_size, WholeCard}
+use Rattle.cache_rules.specs.Place.{width, kind_at, slip_in, card_at, says_at, is_said, place_ok, place_of, this_of, next_of, says_of, slip_size, WholeCard}
 use Rattle.cache_rules.specs.PlaceLaws.{read_sized, said_kind, slip_back, slip_size_lem, slip_most, kind_there, card_there, said_times, place_fits, card_some}
 
 -- zeros have no card
@@ -32,14 +32,14 @@ empty_card_lem p e = ap card_at (zero_true p e) ∙ zero_card (length p)
 
 module _ (p : List ℕ) (o : Octets p) where
   -- where its slip is said, its card is that of what it says
-  pub held_card : is_said_lem (says_at p) ≡ true → card_at p ≡ card_octets (says_at p).card
+  pub held_card : is_said (says_at p) ≡ true → card_at p ≡ card_octets (says_at p).card
   unfolding says_at slip_in
   held_card h =
       ap card_at (sym (take-append-drop (slip_size (kind_at p)) p))
       ∙ card_there (slip_in p) (octets_take (slip_size (kind_at p)) p o) h (drop (slip_size (kind_at p)) p)
 
   -- the slip in it is that of what it says, and ends inside it
-  pub held_slip : is_said_lem (says_at p) ≡ true → (slip_of (says_at p) ≡ slip_in p) × (slip_size (kind_at p) ≤ width)
+  pub held_slip : is_said (says_at p) ≡ true → (slip_of (says_at p) ≡ slip_in p) × (slip_size (kind_at p) ≤ width)
   unfolding says_at slip_in
   held_slip h =
       let t : Octets (slip_in p) = octets_take (slip_size (kind_at p)) p o in
@@ -48,21 +48,21 @@ module _ (p : List ℕ) (o : Octets p) where
       ((slip_back (slip_in p) t h).1, rw (k, ← slip_size_lem (slip_in p) t h) (slip_most (slip_in p) t h))
 
   -- it is empty, or says something
-  pub fits_either : place_ok p ≡ true → (card_at p ≡ []) ⊎ (is_said_lem (says_at p) ≡ true)
+  pub fits_either : place_ok p ≡ true → (card_at p ≡ []) ⊎ (is_said (says_at p) ≡ true)
   unfolding place_ok
   fits_either e = go (all_zero p) refl e
     where
-      go : (b : Bool) → all_zero p ≡ b → cond b true (cond (is_said_lem (says_at p)) (all_zero (drop (slip_size (kind_at p)) p)) false) ≡ true
-          → (card_at p ≡ []) ⊎ (is_said_lem (says_at p) ≡ true)
+      go : (b : Bool) → all_zero p ≡ b → cond b true (cond (is_said (says_at p)) (all_zero (drop (slip_size (kind_at p)) p)) false) ≡ true
+          → (card_at p ≡ []) ⊎ (is_said (says_at p) ≡ true)
       go true q e = inl (empty_card_lem p q)
-      go false q e = inr (both (is_said_lem (says_at p)) (all_zero (drop (slip_size (kind_at p)) p)) e).0
+      go false q e = inr (both (is_said (says_at p)) (all_zero (drop (slip_size (kind_at p)) p)) e).0
 
   -- with a card, it says something about that card, whose times are in order
   module _ (e : place_ok p ≡ true) (n : card_at p ≡ [] → ⊥) where
-    pub full_said : is_said_lem (says_at p) ≡ true
+    pub full_said : is_said (says_at p) ≡ true
     full_said = go (fits_either e)
       where
-        go : (card_at p ≡ []) ⊎ (is_said_lem (says_at p) ≡ true) → is_said_lem (says_at p) ≡ true
+        go : (card_at p ≡ []) ⊎ (is_said (says_at p) ≡ true) → is_said (says_at p) ≡ true
         go (inl z) = absurd (n z)
         go (inr z) = z
 
@@ -75,8 +75,8 @@ module _ (p : List ℕ) (o : Octets p) where
 -- octets are a slip of kind 01 to 03 exactly if they are that of a good, revoked or unknown answer that keeps the slip
 -- rules
 pub slip_exactly : (t : List ℕ) → Octets t
-    → is_said_lem (says_of t) ≡ true ↔ (a : Answer) × (kind_of a.verdict < 4) × (slip_ok a ≡ true) × WholeCard a.card × (slip_of a ≡ t)
-unfolding is_said_lem
+    → is_said (says_of t) ≡ true ↔ (a : Answer) × (kind_of a.verdict < 4) × (slip_ok a ≡ true) × WholeCard a.card × (slip_of a ≡ t)
+unfolding is_said
 slip_exactly t o = (
   λ h. (says_of t, said_kind (says_of t) h, (slip_back t o h).0, read_sized t, (slip_back t o h).1),
   λ (a, k, ok, w, e).
@@ -86,13 +86,13 @@ slip_exactly t o = (
 
 module _ (p : List ℕ) (o : Octets p) where
   -- one that fits and is not zeros is a slip and then zeros
-  full : all_zero p ≡ false → place_ok p ≡ true → is_said_lem (says_at p) ≡ true
+  full : all_zero p ≡ false → place_ok p ≡ true → is_said (says_at p) ≡ true
   unfolding place_ok
-  full q e = (both (is_said_lem (says_at p)) (all_zero (drop (slip_size (kind_at p)) p)) (rw q at e)).0
+  full q e = (both (is_said (says_at p)) (all_zero (drop (slip_size (kind_at p)) p)) (rw q at e)).0
 
   tail : all_zero p ≡ false → place_ok p ≡ true → all_zero (drop (slip_size (kind_at p)) p) ≡ true
   unfolding place_ok
-  tail q e = (both (is_said_lem (says_at p)) (all_zero (drop (slip_size (kind_at p)) p)) (rw q at e)).1
+  tail q e = (both (is_said (says_at p)) (all_zero (drop (slip_size (kind_at p)) p)) (rw q at e)).1
 
   -- one that fits is empty exactly if it has no card
   pub empty_exactly : place_ok p ≡ true → card_at p ≡ [] ↔ all_zero p ≡ true
@@ -105,12 +105,12 @@ module _ (p : List ℕ) (o : Octets p) where
 
   -- it is zeros, or a slip of kind 01 to 03 and then zeros
   pub place_exactly : length p ≡ width
-      → place_ok p ≡ true ↔ (all_zero p ≡ true) ⊎ ((t : List ℕ) × Octets t × (is_said_lem (says_of t) ≡ true) × (p ≡ place_of t))
+      → place_ok p ≡ true ↔ (all_zero p ≡ true) ⊎ ((t : List ℕ) × Octets t × (is_said (says_of t) ≡ true) × (p ≡ place_of t))
   unfolding says_at slip_in place_ok place_of
   place_exactly l = (λ e. go (all_zero p) refl e, ⊎_elim (λ z. rw z) (λ (t, q, h, e). rw e (place_fits t q h)))
     where
       go : (b : Bool) → all_zero p ≡ b → place_ok p ≡ true
-          → (all_zero p ≡ true) ⊎ ((t : List ℕ) × Octets t × (is_said_lem (says_of t) ≡ true) × (p ≡ place_of t))
+          → (all_zero p ≡ true) ⊎ ((t : List ℕ) × Octets t × (is_said (says_of t) ≡ true) × (p ≡ place_of t))
       go true q e = inl q
       go false q e =
           let t : Octets (slip_in p) = octets_take (slip_size (kind_at p)) p o in

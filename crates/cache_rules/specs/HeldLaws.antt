@@ -16,7 +16,7 @@ use Rattle.cache_room.specs.Room.{held_at}
 use Rattle.cache_room.specs.FirstLaws.{held_card, held_none}
 use Rattle.cache_room.specs.SingleLaws.{held_single}
 use Rattle.freshness.specs.declared.Clock.{Clock}
-use Rattle.cache_rules.specs.Place.{places, card_at, says_at, is_said_lem, this_of, next_of}
+use Rattle.cache_rules.specs.Place.{places, card_at, says_at, is_said, this_of, next_of}
 use Rattle.cache_rules.specs.FitLaws.{full_said, full_times}
 use Rattle.freshness.specs.Clock.{clock_ok}
 use Rattle.cache_rules.specs.Cache.{room_of, place_in, is_cache, told, not_held, said_at, ask_of}
@@ -44,7 +44,7 @@ module _ (card : Card) (s : List ℕ) (o : Octets s) (c : is_cache s ≡ true) w
         at
         (held_single card_at [] (room_of s) ((cache_exactly s).0 c).2 i (rw (room_length s) b) (λ z. card_nonempty card (sym e ∙ z)))
 
-    pub here_said : is_said_lem (says_at (place_in s i)) ≡ true
+    pub here_said : is_said (says_at (place_in s i)) ≡ true
     here_said = full_said (place_in s i) (place_octets s i b o) (place_fit s i b c) (λ z. card_nonempty card (sym e ∙ z))
 
     pub here_times : this_of (says_at (place_in s i)).verdict ≤ next_of (says_at (place_in s i)).verdict

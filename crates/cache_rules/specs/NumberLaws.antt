@@ -15,7 +15,7 @@ use Rattle.freshness.specs.declared.Clock.{Clock}
 use Rattle.cache_room.specs.Room.{count}
 use Rattle.cache_rules.specs.declared.Filed.TheVariants.{Count, Refused}
 use Rattle.cache_rules.specs.declared.Told.{Told}
-use Rattle.cache_rules.specs.Place.{card_at, says_at, is_said_lem}
+use Rattle.cache_rules.specs.Place.{card_at, says_at, is_said}
 use Rattle.cache_rules.specs.PlaceLaws.{said_kind}
 use Rattle.cache_rules.specs.Cache.{place_in, filing_refusal, room_after, filed_of, told, not_held, ask_of}
 use Rattle.cache_rules.specs.AskLaws.{told_verdict, told_held}
@@ -88,7 +88,7 @@ of_none = (
   λ n g h. (λ q. absurd (omega (arith, number_none)), λ q. absurd (told_held (refused n 0) (sym q))),
 )
 
-of_answer : (a : Answer) → is_said_lem a ≡ true → Numbered (told a)
+of_answer : (a : Answer) → is_said a ≡ true → Numbered (told a)
 of_answer a d =
     let k = said_kind a d in
     let e : asked_number (told a).asked ≡ 0 = number_told_lem a ∙ said_number a.verdict k in (

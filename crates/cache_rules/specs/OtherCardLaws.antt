@@ -17,7 +17,7 @@ use Rattle.cache_room.specs.FirstLaws.{held_there}
 use Rattle.cache_room.specs.FirstLaws as first
 use Rattle.cache_room.specs.OtherLaws.{Kept, Taken, other_either}
 use Rattle.freshness.specs.declared.Clock.{Clock}
-use Rattle.cache_rules.specs.Place.{places, kind_at, slip_in, card_at, says_at, is_said_lem, place_of, is_stale, wins_of, says_of, slip_size, WholeCard}
+use Rattle.cache_rules.specs.Place.{places, kind_at, slip_in, card_at, says_at, is_said, place_of, is_stale, wins_of, says_of, slip_size, WholeCard}
 use Rattle.cache_rules.specs.PlaceLaws.{read_sized, slip_back, slip_carded, place_card}
 use Rattle.cache_rules.specs.FitLaws.{held_card}
 use Rattle.cache_rules.specs.Cache.{room_of, place_in, is_cache, takes, filing_refusal, room_after, buffer_of, ask_of}
@@ -29,11 +29,11 @@ use Rattle.cache_rules.specs.AskLaws.{cards_same}
 use Rattle.cache_rules.specs.HeldLaws.{card_nonempty}
 
 -- the card of a slip of kind 01 to 03 keeps the serial rule
-pub slip_card_ok : (t : List ℕ) → Octets t → is_said_lem (says_of t) ≡ true → card_ok (says_of t).card ≡ true
+pub slip_card_ok : (t : List ℕ) → Octets t → is_said (says_of t) ≡ true → card_ok (says_of t).card ≡ true
 slip_card_ok t o h = (slip_parts (says_of t) (slip_back t o h).0).1 (slip_carded t o h)
 
 -- the card of what a place says is the one that the place has
-pub place_own : (p : List ℕ) → Octets p → is_said_lem (says_at p) ≡ true → (card : Card) → WholeCard card → card_ok card ≡ true
+pub place_own : (p : List ℕ) → Octets p → is_said (says_at p) ≡ true → (card : Card) → WholeCard card → card_ok card ≡ true
     → card_at p ≡ card_octets card → (says_at p).card ≡ card
 unfolding says_at slip_in
 place_own p o h card z f e =

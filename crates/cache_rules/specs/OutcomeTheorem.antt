@@ -11,7 +11,7 @@ use Rattle.answer.specs.Card.{card_ok}
 use Rattle.answer.specs.Verdict.{kind_of, refused}
 use Rattle.freshness.specs.Clock.{clock_ok}
 use Rattle.freshness.specs.declared.Clock.{Clock}
-use Rattle.cache_rules.specs.Place.{says_at, is_said_lem}
+use Rattle.cache_rules.specs.Place.{says_at, is_said}
 use Rattle.cache_rules.specs.PlaceLaws.{said_kind}
 use Rattle.cache_rules.specs.Cache.{place_in, is_cache, told, not_held, ask_of}
 use Rattle.cache_rules.specs.AskLaws as asking
@@ -27,7 +27,7 @@ module _ (clock : Clock) (card : Card) (s : List ℕ) (o : Octets s) where
       → (ask_of clock card s ≡ not_held → P)
       → (ask_of clock card s ≡ told (refused 15 0) → P)
       → (ask_of clock card s ≡ told (refused 16 0) → P)
-      → ((i : ℕ) → Has s i card → card_ok card ≡ true → is_said_lem (says_at (place_in s i)) ≡ true → ask_of clock card s ≡ told (says_at (place_in s i)) → P)
+      → ((i : ℕ) → Has s i card → card_ok card ≡ true → is_said (says_at (place_in s i)) ≡ true → ask_of clock card s ≡ told (says_at (place_in s i)) → P)
       → P
   outcome P broken outside none early late within = go (is_cache s) (clock_ok clock) (card_ok card) refl refl refl
     where

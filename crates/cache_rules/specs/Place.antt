@@ -1,5 +1,5 @@
 -- A place of the cache (document 02, C-11): its octets, the slip in it, and what the rest of the cache sees of it.
--- width, places; slip_size, card_width, WholeCard, says_of, is_said_lem; kind_at, slip_in, card_at, says_at, place_ok, place_of;
+-- width, places; slip_size, card_width, WholeCard, says_of, is_said; kind_at, slip_in, card_at, says_at, place_ok, place_of;
 -- this_of, next_of, stale_at, is_stale, wins_of. Laws are in PlaceLaws and FitLaws.
 -- The rest of the cache sees nothing else of a place: its width, a kind's sizes and what its slip says, when a slip is
 -- stale, and which of two slips wins. Assumes nothing.
@@ -39,8 +39,8 @@ abbrev pub says_of : List ℕ → Answer
 says_of t = read_of 20 t
 
 -- it is good, revoked or unknown: a slip of kind 01 to 03 that keeps the slip rules
-unfoldable pub is_said_lem : Answer → Bool
-is_said_lem a = ltb (kind_of a.verdict) 4
+unfoldable pub is_said : Answer → Bool
+is_said a = ltb (kind_of a.verdict) 4
 
 -- ---- what stands in a place
 
@@ -62,7 +62,7 @@ says_at p = says_of (slip_in p)
 
 -- a place is empty, all zeros, or a slip of kind 01 to 03 with zeros after it
 unfoldable pub place_ok : List ℕ → Bool
-place_ok p = cond (all_zero p) true (cond (is_said_lem (says_at p)) (all_zero (drop (slip_size (kind_at p)) p)) false)
+place_ok p = cond (all_zero p) true (cond (is_said (says_at p)) (all_zero (drop (slip_size (kind_at p)) p)) false)
 
 -- the place of a slip
 unfoldable pub place_of : List ℕ → List ℕ

@@ -27,7 +27,7 @@ use Rattle.slip.specs.Table.{Row, row_in, row_of, card_size, body_size, size_of}
 use Rattle.slip.specs.Slip.{card_octets, body_of, slip_of, slip_ok, verdict_in, card_under, parsed_as, parsed, read_of, Sized}
 use Rattle.slip.specs.CardOctetsLaws.{card_length}
 use Rattle.slip.specs.SlipLaws.{slip_length, slip_parts, written_read}
-use Rattle.cache_rules.specs.Place.{width, kind_at, slip_in, card_at, says_at, is_said_lem, place_ok, place_of, this_of, next_of, says_of, slip_size}
+use Rattle.cache_rules.specs.Place.{width, kind_at, slip_in, card_at, says_at, is_said, place_ok, place_of, this_of, next_of, says_of, slip_size}
 
 -- ---- the card of any slip has twenty octets in each part
 
@@ -88,11 +88,11 @@ ordered (Refused number status) e = omega arith
 
 -- ---- a slip of kind 01 to 03
 
-pub said_kind : (a : Answer) → is_said_lem a ≡ true → kind_of a.verdict < 4
-unfolding is_said_lem
+pub said_kind : (a : Answer) → is_said a ≡ true → kind_of a.verdict < 4
+unfolding is_said
 said_kind a h = ltb-true (kind_of a.verdict) 4 h
 
-module _ (t : List ℕ) (o : Octets t) (h : is_said_lem (says_of t) ≡ true) where
+module _ (t : List ℕ) (o : Octets t) (h : is_said (says_of t) ≡ true) where
   abbrev a : Answer
   a = says_of t
 
@@ -176,10 +176,10 @@ module _ (t : List ℕ) (o : Octets t) (h : is_said_lem (says_of t) ≡ true) wh
   unfolding place_ok place_of
   place_fits = go (all_zero (place_of t))
     where
-      tail : cond (is_said_lem (says_at (place_of t))) (all_zero (drop (slip_size (kind_at (place_of t))) (place_of t))) false ≡ true
+      tail : cond (is_said (says_at (place_of t))) (all_zero (drop (slip_size (kind_at (place_of t))) (place_of t))) false ≡ true
       tail = rw (place_says, h, rest_there (replicate (width - length t) 0)) (zero_replicate (width - length t))
 
-      go : (b : Bool) → cond b true (cond (is_said_lem (says_at (place_of t))) (all_zero (drop (slip_size (kind_at (place_of t))) (place_of t))) false) ≡ true
+      go : (b : Bool) → cond b true (cond (is_said (says_at (place_of t))) (all_zero (drop (slip_size (kind_at (place_of t))) (place_of t))) false) ≡ true
       go true = refl
       go false = tail
 

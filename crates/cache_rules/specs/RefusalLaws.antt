@@ -11,7 +11,7 @@ use Rattle.octets.specs.SameLaws.{impossible}
 use Rattle.cache_room.specs.Room.{count}
 use Rattle.freshness.specs.declared.Clock.{Clock}
 use Rattle.cache_rules.specs.declared.Filed.TheVariants.{Count, Refused}
-use Rattle.cache_rules.specs.Place.{places, card_at, is_said_lem, says_of}
+use Rattle.cache_rules.specs.Place.{places, card_at, is_said, says_of}
 use Rattle.freshness.specs.Clock.{clock_ok}
 use Rattle.cache_rules.specs.Cache.{is_cache, takes, filing_refusal, room_after, filed_of, buffer_of}
 
@@ -67,9 +67,9 @@ module _ (clock : Clock) (s t : List ℕ) where
   )
 
   -- 19 no such cache; 1 the clock; 17 the slip; 20 no place; none
-  pub refusal_exactly : Says r (is_cache s) (clock_ok clock) (is_said_lem (says_of t)) (ltb (takes clock s t) places)
+  pub refusal_exactly : Says r (is_cache s) (clock_ok clock) (is_said (says_of t)) (ltb (takes clock s t) places)
   unfolding filing_refusal
-  refusal_exactly = says (is_cache s) (clock_ok clock) (is_said_lem (says_of t)) (ltb (takes clock s t) places)
+  refusal_exactly = says (is_cache s) (clock_ok clock) (is_said (says_of t)) (ltb (takes clock s t) places)
 
   -- ---- a refused filing
 

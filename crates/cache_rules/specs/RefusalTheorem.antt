@@ -15,7 +15,7 @@ use Rattle.cache_room.specs.Room.{count}
 use Rattle.cache_room.specs.TakenLaws.{taken_none}
 use Rattle.freshness.specs.declared.Clock.{Clock}
 use Rattle.cache_rules.specs.declared.Filed.TheVariants.{Count, Refused}
-use Rattle.cache_rules.specs.Place.{places, card_at, is_said_lem, place_of, is_stale, says_of}
+use Rattle.cache_rules.specs.Place.{places, card_at, is_said, place_of, is_stale, says_of}
 use Rattle.cache_rules.specs.PlaceLaws.{place_card}
 use Rattle.freshness.specs.Clock.{clock_ok}
 use Rattle.cache_rules.specs.Cache.{room_of, is_cache, takes, filed_of, buffer_of}
@@ -47,14 +47,14 @@ module _ (clock : Clock) (s t : List ℕ) where
       let x = (refusal.refusal_exactly clock s t).1 in
       (λ e. x.0 (n.0 e), λ h. n.1 (x.1 h))
 
-  pub refused_17 : filed_of clock s t ≡ Refused 17 ↔ (is_cache s ≡ true) × (clock_ok clock ≡ true) × (is_said_lem (says_of t) ≡ false)
+  pub refused_17 : filed_of clock s t ≡ Refused 17 ↔ (is_cache s ≡ true) × (clock_ok clock ≡ true) × (is_said (says_of t) ≡ false)
   refused_17 =
       let n = refusal.refused_number clock s t 17 (λ z. omega arith) in
       let x = (refusal.refusal_exactly clock s t).2 in
       (λ e. x.0 (n.0 e), λ h. n.1 (x.1 h))
 
   module _ (o : Octets t) where
-    full_exactly : is_said_lem (says_of t) ≡ true → ltb (takes clock s t) places ≡ false ↔ Full clock s (says_of t).card
+    full_exactly : is_said (says_of t) ≡ true → ltb (takes clock s t) places ≡ false ↔ Full clock s (says_of t).card
     unfolding takes
     full_exactly d =
         let x = taken_none card_at (is_stale clock) (card_at (place_of t)) [] (room_of s) in
@@ -68,7 +68,7 @@ module _ (clock : Clock) (s t : List ℕ) where
               (rw l at (x.1 (λ j b c. m j (rw l at b, c ∙ y), λ j b. n j (rw l at b)))),
         )
 
-    pub refused_20 : filed_of clock s t ≡ Refused 20 ↔ (is_cache s ≡ true) × (clock_ok clock ≡ true) × (is_said_lem (says_of t) ≡ true) × Full clock s (says_of t).card
+    pub refused_20 : filed_of clock s t ≡ Refused 20 ↔ (is_cache s ≡ true) × (clock_ok clock ≡ true) × (is_said (says_of t) ≡ true) × Full clock s (says_of t).card
     refused_20 =
         let n = refusal.refused_number clock s t 20 (λ z. omega arith) in
         let x = (refusal.refusal_exactly clock s t).3 in (
@@ -78,7 +78,7 @@ module _ (clock : Clock) (s t : List ℕ) where
 
     -- accepted exactly if no test fails
     pub accepted_exactly : ((n : ℕ) × (filed_of clock s t ≡ Count n))
-        ↔ (is_cache s ≡ true) × (clock_ok clock ≡ true) × (is_said_lem (says_of t) ≡ true) × (Full clock s (says_of t).card → ⊥)
+        ↔ (is_cache s ≡ true) × (clock_ok clock ≡ true) × (is_said (says_of t) ≡ true) × (Full clock s (says_of t).card → ⊥)
     accepted_exactly =
         let x = (refusal.refusal_exactly clock s t).4 in (
           λ (n, e). let (a, b, c, d) = x.0 (refusal.count_accepted clock s t n e) in (a, b, c, λ h. impossible (sym ((full_exactly c).1 h) ∙ d)),
@@ -94,9 +94,9 @@ module _ (clock : Clock) (s t : List ℕ) where
         ⊎ (filed_of clock s t ≡ Refused 1)
         ⊎ (filed_of clock s t ≡ Refused 17)
         ⊎ (filed_of clock s t ≡ Refused 20)
-    filing_answers = go (is_cache s) (clock_ok clock) (is_said_lem (says_of t)) (ltb (takes clock s t) places) refl refl refl refl
+    filing_answers = go (is_cache s) (clock_ok clock) (is_said (says_of t)) (ltb (takes clock s t) places) refl refl refl refl
       where
-        go : (a b c d : Bool) → is_cache s ≡ a → clock_ok clock ≡ b → is_said_lem (says_of t) ≡ c → ltb (takes clock s t) places ≡ d
+        go : (a b c d : Bool) → is_cache s ≡ a → clock_ok clock ≡ b → is_said (says_of t) ≡ c → ltb (takes clock s t) places ≡ d
             → ((n : ℕ) × (filed_of clock s t ≡ Count n))
             ⊎ (filed_of clock s t ≡ Refused 19)
             ⊎ (filed_of clock s t ≡ Refused 1)

@@ -1,5 +1,7 @@
 // The cache of a room (document 02, C-11): what a cache is, what filing a slip does to it, and what asking
 // for a card gives. Definitions, laws and theorems: specs/ has them all, and there is no function here.
+#![tactic(auto)]
+
 use answer::{Card, Verdict};
 
 // How many octets a place has, and how many places there are.

@@ -3,6 +3,8 @@
 // No public function requires anything. To `read_time` octets that are no such time get an answer that
 // says so; `time_fits` says only whether they are one; `seconds_of` is for octets of which that is known.
 // Only `date` knows the months, and it has no list of them: their days come by division.
+#![tactic(auto)]
+
 mod date; // the days of months and years
 mod fitting; // whether the octets are a time
 mod plain; // the seconds of octets that are known to be a time

@@ -2,6 +2,8 @@
 // with the laws that make reading and writing one. Definitions and laws; the two enums are what
 // readers answer, and the code is in the crates above.
 
+#![tactic(auto)]
+
 // One element at the head of a part.
 #[derive(Drop)]
 pub enum Step {

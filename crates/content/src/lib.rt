@@ -1,6 +1,8 @@
 // The contents of two primitive elements: an OID and a serial.
 //
 // No function here has a requirement.
+#![tactic(auto)]
+
 mod oid; // the content of an OID
 mod serial; // the content of a serial
 

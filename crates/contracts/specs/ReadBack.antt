@@ -10,7 +10,7 @@ use Rattle.octets.specs.Buffer.{put_in, put_size}
 use Rattle.octets.specs.BufferLaws.{put_in_room}
 use Rattle.answer.specs.Verdict.{without_place}
 use Rattle.slip.specs.Slip.{slip_of, read_of}
-use Rattle.hex.specs.Hex.{hex_of}
+use Rattle.hexadecimal.specs.Hex.{hex_of}
 use Rattle.desk_question.specs.Asked.{asked, desk_of}
 use Rattle.desk_question.specs.Line.{line_of}
 use Rattle.desk_line.proofs.line_for.Reads as line-for

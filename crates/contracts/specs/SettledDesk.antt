@@ -19,8 +19,8 @@ use Rattle.slip.proofs.reason_fits.Reads as slip-reason-fits
 use Rattle.slip_write.proofs.write_slip.Reads as slip-write-write-slip
 use Rattle.slip_write.proofs.write_unjudged.Reads as slip-write-write-unjudged
 use Rattle.slip_read.proofs.read_slip.Reads as slip-read-read-slip
-use Rattle.hex.proofs.hex.Reads as hex-hex
-use Rattle.hex.proofs.hex_line.Reads as hex-hex-line
+use Rattle.hexadecimal.proofs.hex.Reads as hex-hex
+use Rattle.hexadecimal.proofs.hex_line.Reads as hex-hex-line
 use Rattle.desk_intake.proofs.keep.Reads as desk-intake-keep
 use Rattle.desk_case.proofs.ask.Reads as desk-case-ask
 use Rattle.desk_case.proofs.slip_for.Reads as desk-case-slip-for

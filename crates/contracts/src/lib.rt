@@ -9,3 +9,5 @@
 //                          line for each function, crate by crate
 //
 // docs/EXCEPTIONS.md has what no contract settles.
+
+#![tactic(auto)]

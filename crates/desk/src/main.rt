@@ -1,24 +1,67 @@
 // The desk: reads a question and a response from standard input, and writes what the response says for
 // the question, as a slip in hex and a line feed.
 //
-// A read that fails is told on standard error, and the line is that of an input without a question, refusal 1.
-// What becomes of the octets that are written no contract says; what is assumed of a read is in crate
-// desk_input.
+// Reading goes on to the end of the input, whatever its length. What is kept of it is in crate desk_intake,
+// with the proof that the line is that of the whole input. A read that fails is not the end: it is told
+// on standard error, and the line is that of an input without a question, refusal 1.
+//
+// No contract says which octets the operating system hands over, or what becomes of those that are
+// written: that a read puts them at the start of the chunk, in order, and answers 0 only at the end of
+// the input, is assumed.
+#![tactic(auto)]
+
 ghost use Rattle.std.specs.Prelude.{◌≤◌, length};
-ghost use Rattle.desk_question.specs.Line.{line_of};
 ghost use Rattle.desk_intake.specs.Room.{room_least};
-ghost use Rattle.desk_intake.specs.Read.{WasRead};
-ghost use Rattle.desk_input.specs.Says.{Says};
+ghost use Rattle.desk_intake.specs.Read.{Onward, WasRead};
+ghost use Rattle.desk.specs.Input.{Says};
 
 use desk_intake::Input;
-use libc::STDOUT_FILENO;
+use libc::{STDIN_FILENO, STDOUT_FILENO};
+
+// Reads once more, and keeps what came after the octets that are kept.
+fn read_more(space: &mut [u8], done: usize) -> Input
+    ensures { Onward space.old done space.new result }
+{
+    let mut chunk = io::buffer();
+    let got = libc::read(STDIN_FILENO, &mut chunk);
+    if got < 0 {
+        return Input::Failed;
+    }
+    let n = io::count(got, &chunk);
+    if n == 0 {
+        return Input::End(done);
+    }
+    let next = desk_intake::keep(space, done, &chunk[..n]);
+    Input::More(next)
+}
+
+// Reads to the end. A proved loop has to end, so it counts its turns down from a number that no run
+// uses up.
+fn read_all(space: &mut [u8]) -> Input
+    ensures { WasRead space.new result }
+{
+    let mut done = 0;
+    let mut turns = u64::MAX;
+    while 0 < turns {
+        turns -= 1;
+        let input = read_more(space, done);
+        match input {
+            Input::More(next) => {
+                done = next;
+            }
+            Input::End(n) => return Input::End(n),
+            Input::Failed => return Input::Failed,
+        }
+    }
+    Input::Failed
+}
 
 // Writes the line of the input that was read, or of an empty one where reading failed: how many octets.
 // In a space with room enough the line is that of the whole input, also where not all of it is kept.
 fn input_line(space: &[u8], input: Input, line: &mut [u8]) -> usize
     requires room_least_in_bounds { room_least ≤ length space.now }
     requires was_read { WasRead space.now input }
-    ensures { Says line_of space.now input line.old result line.new }
+    ensures { Says space.now input line.old result line.new }
 {
     match input {
         Input::More(_) => desk_line::line_for(&space[..0], line),
@@ -27,12 +70,21 @@ fn input_line(space: &[u8], input: Input, line: &mut [u8]) -> usize
     }
 }
 
+// Tells where reading failed.
+fn tell_failure(input: Input) {
+    match input {
+        Input::More(_) => (),
+        Input::End(_) => (),
+        Input::Failed => os::fail(b"desk: standard input"),
+    }
+}
+
 // Writes the line to standard output.
 fn say_input(space: &[u8], input: Input)
     requires room_least_in_bounds { room_least ≤ length space.now }
     requires was_read { WasRead space.now input }
 {
-    desk_input::tell_failure(input, b"desk: standard input");
+    tell_failure(input);
     let mut line = [0u8; 175];
     let n = input_line(space, input, &mut line);
     io::write_all(STDOUT_FILENO, &line[..n]);
@@ -40,6 +92,6 @@ fn say_input(space: &[u8], input: Input)
 
 fn main() {
     let mut space = [0u8; desk_intake::ROOM];
-    let input = desk_input::read_all(&mut space);
+    let input = read_all(&mut space);
     say_input(&space, input);
 }

@@ -20,7 +20,7 @@ use Rattle.slip.specs.CardOctetsLaws.{card_written}
 use Rattle.desk_question.specs.SizeLaws.{card_sized}
 use Rattle.cache_room.specs.Room.{held_at}
 use Rattle.cache_room.specs.FirstLaws.{held_card}
-use Rattle.cache_rules.specs.Place.{slip_size, kind_at, slip_in, card_at, says_at, is_said_lem}
+use Rattle.cache_rules.specs.Place.{slip_size, kind_at, slip_in, card_at, says_at, is_said}
 use Rattle.cache_rules.specs.FitLaws.{held_slip}
 use Rattle.cache_rules.specs.Cache.{room_of, place_in, is_cache, ask_of}
 use Rattle.cache_rules.specs.CacheLaws.{room_length, place_octets}
@@ -72,7 +72,7 @@ module _ (clock : Clock) (c s : List ℕ) where
             (rw h at (held_card card_at c [] (room_of s) (omega (arith, h, held.inside, room_length s)))) ∙ sym own_octets,
           )
 
-      pub find_said : is_said_lem (says_at (place_in s i)) ≡ true
+      pub find_said : is_said (says_at (place_in s i)) ≡ true
       find_said = here_said (card_in 20 c) s o held.cache i has.0 has.1
 
       ok : card_ok (card_in 20 c) ≡ true

@@ -2,6 +2,8 @@
 // and a length there.
 //
 // No function here has a requirement beyond what its types say, keeps state or allocates.
+#![tactic(auto)]
+
 mod caches; // the room's cache
 mod papers; // the check, requests, slips
 mod shown; // a response's refusal, its place and its parts

@@ -1,6 +1,5 @@
 -- What the code knows at each return, and the contract there.
--- form_long, form_kind, form_name, form_fill; question_parts; asked_long, asked_sum, asked_end, asked_checked, asked_out, asked_form;
--- why_found, why_out.
+-- form_long, form_kind, form_name, form_fill; question_parts; asked_long, asked_sum, asked_end, asked_checked, asked_out, asked_form.
 -- Assumes nothing.
 use Prim.Native.Nat.{ℕ, ◌+◌, ◌-◌, ◌≤◌, ◌<◌}
 use native.Mathlib.Omega.{arith}
@@ -19,11 +18,7 @@ use Rattle.answer.specs.declared.Answer.{Answer}
 use Rattle.fields.specs.Field.{field_at, value_at, card_in}
 use Rattle.rules.specs.declared.Question.{Question}
 use Rattle.rules.specs.Ruling.{answer_of}
-use Rattle.why_rules.specs.Why.{why_of}
-use Rattle.why_rules.specs.declared.Why.{Why}
 use Rattle.desk_question.specs.Asked.{question_in, name_in, fill_in, question_ok, asked}
-use Rattle.desk_question.specs.AskedWhy.{why_alone, why_asked}
-use Rattle.desk_question.specs.AskedWhyLaws.{why_broken, why_kept}
 use Rattle.desk_question.specs.AskedLaws.{octet_there, question_exactly, asked_broken, asked_kept}
 
 -- ---- the form
@@ -87,19 +82,9 @@ module _ (s r : List ℕ) (e : question_ok 20 s ≡ true) where
         let i : 97 + size - 97 ≡ value_at s 95 2 = omega arith in
         y ∙ rw (x, i) (sym (asked_kept s r e))
 
-    -- and why
-    pub why_found : (q : Question) → q ≡ question_in 20 s → (w : Why) → w ≡ why_of q (take (97 + size - 97) (drop 97 s)) r → w ≡ why_asked s r
-    unfolding name_in
-    why_found q x w y =
-        let i : 97 + size - 97 ≡ value_at s 95 2 = omega arith in
-        y ∙ rw (x, i) (sym (why_kept s r e))
-
 module _ (s r : List ℕ) (z : Bool) (e : z ≡ question_ok 20 s) where
   pub asked_out : not z ≡ true → (a : Answer) → a ≡ refused 1 0 → a ≡ asked s r
   asked_out h a x = x ∙ sym (asked_broken s r (sym e ∙ not-true z h))
 
   pub asked_form : not z ≡ false → question_ok 20 s ≡ true
   asked_form h = sym e ∙ not-false z h
-
-  pub why_out : not z ≡ true → why_alone 1 ≡ why_asked s r
-  why_out h = sym (why_broken s r (sym e ∙ not-true z h))

@@ -1,11 +1,9 @@
-// The question's octets, the answer, and why it is that.
+// The question's octets, and the answer.
 ghost use Rattle.std.specs.Prelude.{◌≡◌, true, length};
 ghost use Rattle.desk_question.specs.Asked.{question_in, question_ok, asked};
-ghost use Rattle.desk_question.specs.AskedWhy.{why_asked};
 
 use answer::Answer;
 use rules::Question;
-use why_rules::{Evidence, Why};
 
 // Whether a question has its exact length, kind 51 hex, a Name of at most 256 octets, and zeros after
 // the Name.
@@ -65,28 +63,4 @@ pub fn ask(question: &[u8], response: &[u8]) -> Answer
         return answer::refuse(1, 0);
     }
     ask_kept(question, response)
-}
-
-// Why a response says it, for a question that keeps its form.
-fn why_kept(question: &[u8], response: &[u8]) -> Why
-    requires { question_ok 20 question.now ≡ true }
-    ensures { result ≡ why_asked question.now response.now }
-{
-    let q = question_in(question);
-    let size = fields::value_at(question, 95, 2) as usize;
-    let end = 97 + size;
-    why_evidence::why(q, &question[97..end], response)
-}
-
-// Why a response says what it says for a question: the number that `ask` answers, and its evidence.
-pub fn ask_why(question: &[u8], response: &[u8]) -> Why
-    ensures { result ≡ why_asked question.now response.now }
-{
-    if !form_fits(question) {
-        return Why {
-            number: 1,
-            evidence: Evidence::Nothing,
-        };
-    }
-    why_kept(question, response)
 }

@@ -1,25 +1,23 @@
 -- The desk says the same of what is kept of an input as of the whole input: where not all of it is kept, the response is
 -- longer than 16,384 octets either way, and the answer is 1 or 2 whatever its octets are.
--- asked_long; kept_same_answer, kept_same_line, kept_same_why, kept_why_line.
--- What is kept is in Kept, the room in Room; answer, line and why are in crate desk_question (Asked, Line, AskedWhy). Assumes nothing.
-use Rattle.std.specs.Prelude.{ℕ, ◌≤◌, ◌<◌, ◌≡◌, Bool, true, false, leb, take, drop}
-use Rattle.std.proofs.Common.{arith, sym, ◌∙◌, take_all, take-take, leb-true, leb-false, lt-ltb}
-use Rattle.std.proofs.Math.Path.{refl, ap}
+-- asked_long; kept_same_answer, kept_same_line.
+-- What is kept is in Kept, the room in Room, the answer and the line in crate desk_question (Asked, Line). Assumes nothing.
+use Rattle.std.specs.Prelude.{ℕ, ◌≤◌, ◌<◌, ◌≡◌, refl, Bool, true, false, leb, length, take, drop}
+use Rattle.std.proofs.Common.{arith, sym, ◌∙◌, take-take, leb-true, leb-false, lt-ltb}
+use Rattle.std.proofs.Math.Path.{ap}
 use mathlib.Core.List.{List}
-use Rattle.std.proofs.Math.ListN.{length, length-drop}
+use Rattle.std.proofs.Math.ListN.{length-drop}
 use Rattle.std.proofs.Math.Seq.{length-take-le}
 use Rattle.rules.specs.declared.Question.{Question}
 use Rattle.rules.specs.Question.{in_range}
 use Rattle.rules.specs.Ruling.{answer_of}
 use Rattle.rules.specs.RowLaws.{row_2}
 use Rattle.rules.specs.RefusalLaws.{out_of_range}
-use Rattle.why_line.specs.WhyLine.{why_line}
 use Rattle.desk_question.specs.Asked.{question_in, name_in, question_ok, asked, desk_of}
 use Rattle.desk_question.specs.AskedLaws.{asked_broken, asked_kept}
 use Rattle.desk_question.specs.Line.{line_of}
-use Rattle.desk_question.specs.AskedWhy.{why_asked, why_desk, why_line_of}
-use Rattle.desk_question.specs.AskedWhyLaws.{why_long}
 use Rattle.desk_intake.specs.Kept.{kept_of}
+use Rattle.desk_intake.specs.KeptLaws.{kept_all}
 use Rattle.desk_intake.specs.Room.{question_size, response_most, room_least}
 
 -- ---- a response that is too long
@@ -46,41 +44,27 @@ asked_long q r r' h h' = go (question_ok 20 q) refl
 -- ---- an input
 
 module _ (room : ℕ) (l : List ℕ) (h : room_least ≤ room) where
-  -- what the question alone decides where the response is too long is the same of what is kept
-  kept_same : {A : Type 0} (f : List ℕ → List ℕ → A) → ((q r r' : List ℕ) → response_most < length r → response_most < length r' → f q r ≡ f q r')
-      → f (take question_size (kept_of room l)) (drop question_size (kept_of room l)) ≡ f (take question_size l) (drop question_size l)
-  unfolding kept_of
-  kept_same {A} f long = go (leb (length l) room) refl
-    where
-      -- an input that is longer than the room: the question is kept, and the response is too long either way
-      cut : room ≤ length l → f (take question_size (take room l)) (drop question_size (take room l)) ≡ f (take question_size l) (drop question_size l)
-      cut k =
-          ap (λ (q : List ℕ). f q (drop question_size (take room l))) (take-take question_size room l (omega arith))
-          ∙ long
-          (take question_size l)
-          (drop question_size (take room l))
-          (drop question_size l)
-          (omega (arith, length-drop question_size (take room l), length-take-le room l k))
-          (omega (arith, length-drop question_size l))
-
-      go : (b : Bool) → leb (length l) room ≡ b → f (take question_size (take room l)) (drop question_size (take room l)) ≡ f (take question_size l) (drop question_size l)
-      go true e = ap (λ (s : List ℕ). f (take question_size s) (drop question_size s)) (take_all room l (leb-true (length l) room e))
-      go false e = let k = leb-false (length l) room e in cut (omega arith)
+  -- an input that is longer than the room: the question is kept, and the response is too long either way
+  cut_same_answer : room ≤ length l → desk_of (kept_of room l) ≡ desk_of l
+  unfolding desk_of kept_of
+  cut_same_answer k =
+      ap (λ (q : List ℕ). asked q (drop question_size (take room l))) (take-take question_size room l (omega arith))
+      ∙ asked_long
+      (take question_size l)
+      (drop question_size (take room l))
+      (drop question_size l)
+      (omega (arith, length-drop question_size (take room l), length-take-le room l k))
+      (omega (arith, length-drop question_size l))
 
   -- the answer to what is kept is the answer to the input
   pub kept_same_answer : desk_of (kept_of room l) ≡ desk_of l
-  unfolding desk_of
-  kept_same_answer = kept_same asked asked_long
+  kept_same_answer = go (leb (length l) room) refl
+    where
+      go : (b : Bool) → leb (length l) room ≡ b → desk_of (kept_of room l) ≡ desk_of l
+      go true e = ap desk_of (kept_all room l (leb-true (length l) room e))
+      go false e = let k = leb-false (length l) room e in cut_same_answer (omega arith)
 
   -- and so is the line
   pub kept_same_line : line_of (kept_of room l) ≡ line_of l
   unfolding line_of
   kept_same_line = rw kept_same_answer
-
-  -- and why it is answered so
-  pub kept_same_why : why_desk (kept_of room l) ≡ why_desk l
-  unfolding why_desk
-  kept_same_why = kept_same why_asked why_long
-
-  pub kept_why_line : why_line_of (kept_of room l) ≡ why_line_of l
-  kept_why_line = ap why_line kept_same_why

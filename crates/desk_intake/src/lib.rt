@@ -4,6 +4,8 @@
 // (specs/, SameLineLaws). No input or output of its own.
 //
 // No function here has a requirement: a place past the space is held to its end.
+#![tactic(auto)]
+
 mod keeping; // one chunk more
 
 pub use keeping::keep;

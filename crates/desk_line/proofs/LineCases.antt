@@ -1,6 +1,6 @@
 -- What the code knows at each return of the line's writer, and the contract there.
--- end_before, end_at_lem, end_inside, end_counted; why_count, why_buffer; desk_count, desk_buffer; line_inside, line_counted,
--- line_count, line_buffer; line_read.
+-- end_before, end_at_lem, end_inside, end_counted, desk_count, desk_buffer; line_inside, line_counted, line_count, line_buffer;
+-- line_read.
 -- Assumes nothing.
 use Prim.Native.Nat.{ℕ, ◌+◌, ◌-◌, ◌≤◌, ◌<◌}
 use native.Mathlib.Nat.{zero-add}
@@ -18,12 +18,9 @@ use Rattle.octets.specs.LentLaws.{Known, known_octets}
 use Rattle.slip.specs.Slip.{slip_of, read_of}
 use Rattle.answer.specs.Verdict.{without_place}
 use Rattle.slip.specs.SlipLaws.{read_written}
-use Rattle.hex.specs.Hex.{hex_line}
-use Rattle.why_rules.specs.declared.Why.{Why}
-use Rattle.why_line.specs.WhyLine.{why_line}
+use Rattle.hexadecimal.specs.Hex.{hex_line}
 use Rattle.desk_question.specs.Asked.{asked, desk_of}
 use Rattle.desk_question.specs.Line.{question_end, line_of}
-use Rattle.desk_question.specs.AskedWhy.{why_asked, why_desk}
 use Rattle.desk_question.specs.LineLaws.{line_is, end_short, end_long, end_least, cut_question, cut_response, desk_fits, desk_most}
 use Rattle.desk_question.specs.SizeLaws.{asked_sized}
 
@@ -42,31 +39,14 @@ module _ (s : List ℕ) (end : ℕ) (e : end ≡ question_end (length s)) where
   pub end_counted : end ≡ length (take end s)
   end_counted = sym (length-take-le end s end_inside)
 
-  -- what is said of the two parts is said of the input
-  two_parts : {A : Type 0} (f : List ℕ → List ℕ → A) → f (take end s) (take (length s - end) (drop end s)) ≡ f (take 353 s) (drop 353 s)
-  two_parts {A} f =
-      ap₂
-      f
-      (ap (λ (k : ℕ). take k s) e ∙ cut_question s)
-      (take_all (length s - end) (drop end s) (omega (arith, length-drop end s)) ∙ ap (λ (k : ℕ). drop k s) e ∙ cut_response s)
-
   -- the answer to the two parts is the input's
   parts : asked (take end s) (take (length s - end) (drop end s)) ≡ desk_of s
   unfolding desk_of
-  parts = two_parts asked
-
-  -- and so is why
-  module _ (w : Why) (x : w ≡ why_asked (take end s) (take (length s - end) (drop end s))) where
-    why_parts : w ≡ why_desk s
-    unfolding why_desk
-    why_parts = x ∙ two_parts why_asked
-
-    pub why_count : (k n : ℕ) → n ≡ cond (ltb k (length (why_line w))) 0 (length (why_line w))
-        → n ≡ cond (ltb k (length (why_line (why_desk s)))) 0 (length (why_line (why_desk s)))
-    why_count k n y = y ∙ rw why_parts
-
-    pub why_buffer : (out o : List ℕ) → o ≡ put_in out 0 (why_line w) → o ≡ put_in out 0 (why_line (why_desk s))
-    why_buffer out o y = y ∙ rw why_parts
+  parts =
+      ap₂
+      asked
+      (ap (λ (k : ℕ). take k s) e ∙ cut_question s)
+      (take_all (length s - end) (drop end s) (omega (arith, length-drop end s)) ∙ ap (λ (k : ℕ). drop k s) e ∙ cut_response s)
 
   pub desk_count : (k n : ℕ)
       → n ≡ cond (ltb k (length (slip_of (asked (take end s) (take (length s - end) (drop end s)))))) 0 (length (slip_of (asked (take end s) (take (length s - end) (drop end s)))))

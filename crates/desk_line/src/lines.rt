@@ -1,11 +1,10 @@
-// The programs' lines: the slip of the answer to an input, as hex; and why it is that, in decimal.
+// The program's line: the slip of the answer to its input, as hex.
 ghost use Rattle.std.specs.Prelude.{◌≡◌, length};
 ghost use Rattle.octets.specs.Buffer.{put_in, put_size};
 ghost use Rattle.answer.specs.Verdict.{without_place};
 ghost use Rattle.slip.specs.Slip.{slip_of, read_of};
 ghost use Rattle.desk_question.specs.Asked.{desk_of};
 ghost use Rattle.desk_question.specs.Line.{question_end, line_of};
-ghost use Rattle.desk_question.specs.AskedWhy.{why_line_of};
 
 // Where the question of an input ends: after 353 octets, or where the input does.
 fn question_end(input: &[u8]) -> usize
@@ -35,16 +34,5 @@ pub fn line_for(input: &[u8], out: &mut [u8]) -> usize
 {
     let mut slip = [0u8; 87];
     let size = desk_slip(input, &mut slip);
-    hex::hex_line(&slip[..size], out)
-}
-
-// Writes the line of why an input is answered as it is at the start of a buffer: how many octets, or 0 where
-// there is no room for them.
-pub fn why_line_for(input: &[u8], out: &mut [u8]) -> usize
-    ensures value { result ≡ put_size out.old (why_line_of input.now) }
-    ensures out_after { out.new ≡ put_in out.old 0 (why_line_of input.now) }
-{
-    let end = question_end(input);
-    let why = desk_case::ask_why(&input[..end], &input[end..]);
-    why_line::put_line(why, out)
+    hexadecimal::hex_line(&slip[..size], out)
 }

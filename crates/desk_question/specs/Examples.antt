@@ -16,7 +16,7 @@ use Rattle.layout.specs.Read.{unfit, reading}
 use Rattle.rules.specs.Examples.{checked, failure, desk_case}
 use Rattle.rules.specs.Examples as ruling
 use Rattle.slip.specs.Examples.{slip_computes}
-use Rattle.hex.specs.Hex.{digit_of, hex_of}
+use Rattle.hexadecimal.specs.Hex.{digit_of, hex_of}
 use Rattle.desk_question.specs.Asked.{question_in, name_in, fill_in, question_ok, asked, desk_of}
 use Rattle.desk_question.specs.AskedLaws.{asked_broken, desk_short}
 use Rattle.desk_question.specs.Line.{line_of}

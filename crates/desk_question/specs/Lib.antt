@@ -4,6 +4,4 @@ pub mod FitsLaws
 pub mod SizeLaws
 pub mod Line
 pub mod LineLaws
-pub mod AskedWhy
-pub mod AskedWhyLaws
 pub mod Examples

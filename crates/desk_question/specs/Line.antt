@@ -3,7 +3,7 @@
 -- Assumes nothing.
 use Rattle.std.specs.Prelude.{ℕ, cond, List, [], ◌∷◌, ◌++◌, ltb}
 use Rattle.slip.specs.Slip.{slip_of}
-use Rattle.hex.specs.Hex.{hex_of}
+use Rattle.hexadecimal.specs.Hex.{hex_of}
 use Rattle.desk_question.specs.Asked.{desk_of}
 
 -- where the question of an input of n octets ends: after 353 octets, or where the input does

@@ -7,7 +7,7 @@ use Rattle.std.proofs.Math.Seq.{take-length, drop-length}
 use Rattle.octets.specs.Octets.{Octets}
 use Rattle.octets.specs.OctetsLaws.{octets_drop}
 use Rattle.slip.specs.Slip.{slip_of, slip_ok}
-use Rattle.hex.specs.Hex.{hex_line}
+use Rattle.hexadecimal.specs.Hex.{hex_line}
 use Rattle.desk_question.specs.Asked.{desk_of}
 use Rattle.desk_question.specs.FitsLaws.{fits_slip}
 use Rattle.desk_question.specs.SizeLaws.{asked_most}

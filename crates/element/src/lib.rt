@@ -2,6 +2,8 @@
 //
 // No function here has a requirement. A refused header says the place that is refused, counted
 // from the start of the part that was lent.
+#![tactic(auto)]
+
 mod heads; // the header read
 mod lengths; // how many octets a length takes
 mod tags; // the tag octet

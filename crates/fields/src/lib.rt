@@ -1,6 +1,8 @@
 // Fields of a fixed width, as questions and slips have them, and what a writer answers.
 //
 // No function here has a requirement: a field that is not there is zeros.
+#![tactic(auto)]
+
 mod parts; // hashes, numbers and cards read from a part
 mod room; // what a writer answers, before it writes
 

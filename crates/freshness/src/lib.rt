@@ -2,6 +2,8 @@
 // nextUpdate plus a tolerance, both included.
 //
 // The functions take any numbers and have no requirement. Here alone an answer's times are judged.
+#![tactic(auto)]
+
 ghost use Rattle.std.specs.Prelude.{◌≡◌};
 ghost use Rattle.freshness.specs.Clock.{clock_ok};
 ghost use Rattle.freshness.specs.Fresh.{fresh_of};

@@ -121,9 +121,9 @@ extension_list = each 1 16 (λ e. e.oid) extension_after extension_keyed
 unfoldable pub extensions : Element (List Extension)
 extensions = one (only (sequence extension_list))
 
-pub extensions_start_lem : Starts 0xa1 extensions
+pub extensions_start : Starts 0xa1 extensions
 unfolding extensions
-extensions_start_lem = tagged_starts 0xa1 (only (sequence extension_list)) tag_a1 (lit< tt)
+extensions_start = tagged_starts 0xa1 (only (sequence extension_list)) tag_a1 (lit< tt)
 
 -- SingleResponse ::= SEQUENCE { certID, certStatus, thisUpdate, nextUpdate [0] OPTIONAL, singleExtensions [1] OPTIONAL }
 unfoldable pub next_update : Element ℕ
@@ -133,15 +133,15 @@ pub next_starts : Starts 0xa0 next_update
 unfolding next_update
 next_starts = tagged_starts 0xa0 (only time) tag_a0 (lit< tt)
 
-pub extensions_apart : Apart 0xa0 (optional 0xa1 extensions extensions_start_lem)
+pub extensions_apart : Apart 0xa0 (optional 0xa1 extensions extensions_start)
 extensions_apart x h =
-    option_apart 0xa0 0xa1 extensions end extensions_start_lem (end_apart 0xa1)
-    (starts_other 0xa0 0xa1 extensions refl extensions_start_lem) (end_apart 0xa0) (x, tt) h
+    option_apart 0xa0 0xa1 extensions end extensions_start (end_apart 0xa1)
+    (starts_other 0xa0 0xa1 extensions refl extensions_start) (end_apart 0xa0) (x, tt) h
 
 unfoldable pub single_body : Whole Entry
 single_body =
     entry (field cert_id (field cert_status (field time
-    (option 0xa0 next_update (optional 0xa1 extensions extensions_start_lem) next_starts extensions_apart))))
+    (option 0xa0 next_update (optional 0xa1 extensions extensions_start) next_starts extensions_apart))))
 
 unfoldable pub single_response : Element Entry
 single_response = sequence single_body

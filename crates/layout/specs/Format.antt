@@ -21,7 +21,7 @@ use Rattle.layout.specs.Names.{responder, SignedFields, signed, basic, Envelope,
 use Rattle.layout.specs.Words as words
 use Rattle.layout.specs.Kinds.{sequence, zero, one, two, string, enumerated, optional, free_sequence, time, oid, tag_02, tag_03, tag_a0, tag_a1, tag_a2}
 unfoldable pub use Rattle.layout.specs.EntryFormat.{algorithm_body, algorithm_identifier, cert_body, cert_id, good_status, unknown_status, reason, revoked_body, revoked_status, cert_status, new_oid, critical, extension_body, extension_after, extension_list, extensions, next_update, single_body, single_response}
-pub use Rattle.layout.specs.EntryFormat.{reason_starts, good_starts, unknown_starts, revoked_starts, revoked_other, bad_other, critical_starts, value_apart, extension_keyed, extensions_start_lem, next_starts, extensions_apart}
+pub use Rattle.layout.specs.EntryFormat.{reason_starts, good_starts, unknown_starts, revoked_starts, revoked_other, bad_other, critical_starts, value_apart, extension_keyed, extensions_start, next_starts, extensions_apart}
 
 -- ResponderID ::= CHOICE { by_name [1] Name, by_key [2] an OCTET STRING of 20 }
 unfoldable pub name_id : Element Tree
@@ -66,11 +66,11 @@ responses = sequence (many 0 64 single_response)
 
 -- the fields after the version
 unfoldable pub signed_fields : Whole SignedFields
-signed_fields = field responder_id (field time (field responses (optional 0xa1 extensions extensions_start_lem)))
+signed_fields = field responder_id (field time (field responses (optional 0xa1 extensions extensions_start)))
 
 pub fields_apart : Apart 0xa0 signed_fields
 unfolding signed_fields
-fields_apart = field_apart 0xa0 responder_id (field time (field responses (optional 0xa1 extensions extensions_start_lem))) responder_other
+fields_apart = field_apart 0xa0 responder_id (field time (field responses (optional 0xa1 extensions extensions_start))) responder_other
 
 unfoldable pub signed_body : Whole Signed
 signed_body = signed (option 0xa0 version signed_fields version_starts fields_apart)

@@ -1,5 +1,7 @@
 // Runs the marked examples M1 to M9 of document 01 through the proved functions, a line each. What
 // it must write is in the file stdout.
+#![tactic(auto)]
+
 use libc::STDOUT_FILENO;
 
 fn say(text: &[u8]) {

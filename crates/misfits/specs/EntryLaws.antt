@@ -81,7 +81,7 @@ extensions_placed =
     (λ x. refl) after_placed 1 16)))
 
 -- ── an entry ──
-pub perhaps_extensions : Placed (kinds.optional 0xa1 format.extensions format.extensions_start_lem).dec (perhaps 0xa1 extensions_item nothing)
+pub perhaps_extensions : Placed (kinds.optional 0xa1 format.extensions format.extensions_start).dec (perhaps 0xa1 extensions_item nothing)
 perhaps_extensions = named _ (perhaps_placed extensions_placed 0xa1 end_placed)
 
 pub single_placed : PlacedHead (format.single_response).dec single_item

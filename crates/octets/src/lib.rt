@@ -3,6 +3,8 @@
 //
 // No function here has a requirement: what does not fit gets an answer that says so, and leaves
 // the buffer as it was.
+#![tactic(auto)]
+
 mod compare; // two lists compared
 mod digits; // numbers read and written
 mod place; // octets written at a place of a buffer

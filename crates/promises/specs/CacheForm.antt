@@ -19,7 +19,7 @@ use Rattle.slip.specs.Slip.{slip_of, slip_ok}
 use Rattle.freshness.specs.Clock.{clock_ok}
 use Rattle.freshness.specs.ClockLaws.{clock_exactly}
 use Rattle.freshness.specs.declared.Clock.{Clock}
-use Rattle.cache_rules.specs.Place.{kind_at, card_at, says_at, is_said_lem, place_ok, place_of, says_of, WholeCard}
+use Rattle.cache_rules.specs.Place.{kind_at, card_at, says_at, is_said, place_ok, place_of, says_of, WholeCard}
 use Rattle.cache_rules.specs.Cache.{place_in, is_cache}
 use Rattle.cache_rules.specs.Has.{Has}
 use Rattle.cache_rules.specs.FitLaws.{slip_exactly, place_exactly, empty_exactly}
@@ -42,14 +42,14 @@ place_stands = place_at
 -- a place of 87 octets fits exactly if it is all zeros, or a slip that may be filed and then zeros
 pub place_in_full : (p : List ℕ) → Octets p → length p ≡ 87
     → place_ok p ≡ true
-    ↔ (all_zero p ≡ true) ⊎ ((t : List ℕ) × Octets t × (is_said_lem (says_of t) ≡ true) × (p ≡ t ++ replicate (87 - length t) 0))
+    ↔ (all_zero p ≡ true) ⊎ ((t : List ℕ) × Octets t × (is_said (says_of t) ≡ true) × (p ≡ t ++ replicate (87 - length t) 0))
 unfolding place_of
 place_in_full p o l = place_exactly p o l
 
 -- octets are a slip that may be filed exactly if they are that of an answer of kind 01, 02 or 03 that keeps the slip
 -- rules
 pub slip_in_full : (t : List ℕ) → Octets t
-    → is_said_lem (says_of t) ≡ true ↔ (a : Answer) × (kind_of a.verdict < 4) × (slip_ok a ≡ true) × WholeCard a.card × (slip_of a ≡ t)
+    → is_said (says_of t) ≡ true ↔ (a : Answer) × (kind_of a.verdict < 4) × (slip_ok a ≡ true) × WholeCard a.card × (slip_of a ≡ t)
 slip_in_full = slip_exactly
 
 -- a place of a cache has no card exactly if it is all zeros
@@ -70,7 +70,7 @@ card_in_full p h = ⊎_elim (λ e. rw e) (⊎_elim (λ e. rw e) (λ e. rw e)) h
 
 -- a place of a cache has a card in range exactly if its slip says something about that card, in every octet
 pub has_in_full : (s : List ℕ) (i : ℕ) (card : Card) → Octets s → is_cache s ≡ true → WholeCard card → card_ok card ≡ true
-    → Has s i card ↔ (i < 64) × (is_said_lem (says_at (place_in s i)) ≡ true) × ((says_at (place_in s i)).card ≡ card)
+    → Has s i card ↔ (i < 64) × (is_said (says_at (place_in s i)) ≡ true) × ((says_at (place_in s i)).card ≡ card)
 has_in_full = has_exactly
 
 -- ── document 01's ranges (refusal 1) ──

@@ -2,7 +2,7 @@
 -- unchanged, refused_19, refused_1, refused_17, refused_20, accepted_exactly, always_answered; filed_number_in_full,
 -- filed_numbers.
 -- `filed_of clock s t` is what filing the octets t into the buffer s answers, `buffer_of clock s t` what it leaves there
--- (cache_rules: Cache); `is_said_lem (says_of t)` says that t is a slip that may be filed (CacheForm: slip_in_full), `Full`
+-- (cache_rules: Cache); `is_said (says_of t)` says that t is a slip that may be filed (CacheForm: slip_in_full), `Full`
 -- that no place has a card and none is empty or stale (cache_rules: Has), `filed_number` and `filed_count` are in
 -- cache_rules: Numbers. `Octets` holds of every slip in code. Accepted filings are in CacheFile. Assumes nothing.
 use Rattle.std.specs.Prelude.{ℕ, ◌<◌, ◌⊎◌, ◌↔◌, ◌≡◌, refl, true, false, List}
@@ -10,7 +10,7 @@ use Rattle.octets.specs.Octets.{Octets}
 use Rattle.freshness.specs.Clock.{clock_ok}
 use Rattle.freshness.specs.declared.Clock.{Clock}
 use Rattle.cache_rules.specs.declared.Filed.TheVariants.{Count, Refused}
-use Rattle.cache_rules.specs.Place.{is_said_lem, says_of}
+use Rattle.cache_rules.specs.Place.{is_said, says_of}
 use Rattle.cache_rules.specs.Cache.{is_cache, filed_of, buffer_of}
 use Rattle.cache_rules.specs.Has.{Full}
 use Rattle.cache_rules.specs.Numbers.{filed_number, filed_count}
@@ -31,7 +31,7 @@ module _ (clock : Clock) (s t : List ℕ) where
   refused_1 = refusal.refused_1 clock s t
 
   -- 17 exactly if these pass, and the octets are no slip of kind 01, 02 or 03 that keeps the slip rules
-  pub refused_17 : filed_of clock s t ≡ Refused 17 ↔ (is_cache s ≡ true) × (clock_ok clock ≡ true) × (is_said_lem (says_of t) ≡ false)
+  pub refused_17 : filed_of clock s t ≡ Refused 17 ↔ (is_cache s ≡ true) × (clock_ok clock ≡ true) × (is_said (says_of t) ≡ false)
   refused_17 = refusal.refused_17 clock s t
 
   -- the number: 0 exactly if it is accepted, any other exactly if that is the refusal
@@ -41,12 +41,12 @@ module _ (clock : Clock) (s t : List ℕ) where
 
   module _ (o : Octets t) where
     -- 20 exactly if these pass, no place has the slip's card, and none is empty or stale
-    pub refused_20 : filed_of clock s t ≡ Refused 20 ↔ (is_cache s ≡ true) × (clock_ok clock ≡ true) × (is_said_lem (says_of t) ≡ true) × Full clock s (says_of t).card
+    pub refused_20 : filed_of clock s t ≡ Refused 20 ↔ (is_cache s ≡ true) × (clock_ok clock ≡ true) × (is_said (says_of t) ≡ true) × Full clock s (says_of t).card
     refused_20 = refusal.refused_20 clock s t o
 
     -- accepted exactly if none of this is so
     pub accepted_exactly : ((n : ℕ) × (filed_of clock s t ≡ Count n))
-        ↔ (is_cache s ≡ true) × (clock_ok clock ≡ true) × (is_said_lem (says_of t) ≡ true) × (Full clock s (says_of t).card → ⊥)
+        ↔ (is_cache s ≡ true) × (clock_ok clock ≡ true) × (is_said (says_of t) ≡ true) × (Full clock s (says_of t).card → ⊥)
     accepted_exactly = refusal.accepted_exactly clock s t o
 
     -- nothing else is given than a count, 19, 1, 17 and 20

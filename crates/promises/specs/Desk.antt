@@ -14,7 +14,7 @@ use Rattle.rules.specs.Ruling.{answer_of}
 use Rattle.rules.specs.Examples.{failure}
 use Rattle.slip.specs.Slip.{slip_of, slip_ok, read_of}
 use Rattle.slip.specs.SlipLaws.{read_written}
-use Rattle.hex.specs.Hex.{hex_of}
+use Rattle.hexadecimal.specs.Hex.{hex_of}
 use Rattle.desk_question.specs.Asked.{name_size, question_in, name_in, fill_in, question_ok, asked, desk_of}
 use Rattle.desk_question.specs.AskedLaws as desk
 use Rattle.desk_question.specs.SizeLaws.{asked_sized}

@@ -10,3 +10,5 @@
 //
 // That the code meets its contracts, and that every public contract settles its result and its buffers,
 // is in crate contracts. docs/PROMISES.md has each promise in plain words beside its name.
+
+#![tactic(auto)]

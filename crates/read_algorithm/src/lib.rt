@@ -3,6 +3,8 @@
 //
 // No function here has a requirement. A wrong place is counted from the start of the part that was
 // lent.
+#![tactic(auto)]
+
 mod algorithms; // algorithm identifiers
 
 pub use algorithms::read_algorithm;

@@ -3,6 +3,8 @@
 //
 // No public function here has a requirement. A place is counted from the start of the piece that was
 // lent. Nothing is copied.
+#![tactic(auto)]
+
 mod signed; // the signed part's content
 mod tails; // what follows the signed part
 

@@ -3,6 +3,8 @@
 //
 // No function here has a requirement. A wrong place is counted from the start of the part that was
 // lent.
+#![tactic(auto)]
+
 mod certs; // CertIDs
 
 pub use certs::read_cert;

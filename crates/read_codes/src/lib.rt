@@ -3,6 +3,8 @@
 //
 // No function here has a requirement. A wrong place is counted from the start of the part that was
 // lent; a content that does not fit is wrong at its element's own place, 0.
+#![tactic(auto)]
+
 mod singles; // contents of one octet, and of none
 
 pub use singles::{read_code, read_good, read_reason_code, read_true, read_unknown, read_v1};

@@ -3,6 +3,8 @@
 //
 // No function here has a requirement. A wrong place is counted from the start of the part that was
 // lent; a content that does not fit is wrong at its element's own place, 0.
+#![tactic(auto)]
+
 mod spots; // contents that stay octets
 
 pub use spots::{expect, read_any_string, read_bits, read_oid, read_string};

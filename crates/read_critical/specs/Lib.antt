@@ -1,4 +1,3 @@
 pub mod Strange
 pub mod StrangeLaws
 pub mod Examples
-pub mod PlaceLaws

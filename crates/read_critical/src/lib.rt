@@ -2,6 +2,8 @@
 //
 // No public function here has a requirement: a part that is not the A1 of extensions has no such place.
 // A place is counted from the start of the part that was lent. Nothing is copied.
+#![tactic(auto)]
+
 mod around; // the two elements around the list
 mod list; // the list
 mod one; // one extension

@@ -14,7 +14,7 @@ use Rattle.codec.specs.Views.{step_of, fit_of}
 use Rattle.codec.specs.declared.Step.{Step}
 use Rattle.codec.specs.declared.Fit.{Fit}
 use Rattle.codec.specs.declared.Fit.TheVariants.{Fits, Breaks}
-use Rattle.layout.specs.Format.{extensions, extensions_start_lem}
+use Rattle.layout.specs.Format.{extensions, extensions_start}
 use Rattle.read_sequence.specs.Judged.{filled_by}
 use Rattle.read_sequence.specs.CaseLaws.{filled_optional, optional_none}
 use Rattle.read_ending.specs.Ends.{extensions_on}
@@ -33,18 +33,18 @@ module _ (s : List ℕ) where
   -- nothing is there
   pub ends_empty : length s ≡ 0 → Fits ≡ fit_of (extensions_on.dec s)
   unfolding extensions_on filled_by
-  ends_empty h = optional_none extensions s 0xa1 extensions_start_lem false (starts_empty s h) refl Fits (sym (rw h))
+  ends_empty h = optional_none extensions s 0xa1 extensions_start false (starts_empty s h) refl Fits (sym (rw h))
 
   module _ (n : length s ≡ 0 → ⊥) where
     -- something else is there
     pub ends_other : (get_or s 0 0 ≡ 0xa1 → ⊥) → Breaks 0 ≡ fit_of (extensions_on.dec s)
     unfolding extensions_on filled_by
     ends_other h =
-        optional_none extensions s 0xa1 extensions_start_lem (eqb (get_or s 0 0) 0xa1) (starts_by s n) (ne_eqb (get_or s 0 0) 0xa1 h) (Breaks 0)
+        optional_none extensions s 0xa1 extensions_start (eqb (get_or s 0 0) 0xa1) (starts_by s n) (ne_eqb (get_or s 0 0) 0xa1 h) (Breaks 0)
         (sym (rw (ne_eqb 0 (length s) (λ e. n (sym e)))))
 
     -- extensions
     pub ends_there : get_or s 0 0 ≡ 0xa1 → (x : Step) → x ≡ step_of (extensions.dec s) → (r : Fit) → r ≡ filled_by (length s) x
         → r ≡ fit_of (extensions_on.dec s)
     unfolding extensions_on
-    ends_there h x q r k = filled_optional extensions s x q r k 0xa1 extensions_start_lem (eqb (get_or s 0 0) 0xa1) (starts_by s n) (eq-eqb (get_or s 0 0) 0xa1 h)
+    ends_there h x q r k = filled_optional extensions s x q r k 0xa1 extensions_start (eqb (get_or s 0 0) 0xa1) (starts_by s n) (eq-eqb (get_or s 0 0) 0xa1 h)

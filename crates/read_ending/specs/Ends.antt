@@ -7,11 +7,11 @@ use Rattle.codec.specs.Codec.{Whole}
 use Rattle.codec.specs.Option.{option}
 use Rattle.layout.specs.Reading.{Extension}
 use Rattle.layout.specs.Kinds.{optional}
-use Rattle.layout.specs.Format.{extensions, extensions_start_lem, extensions_apart, next_update, next_starts}
+use Rattle.layout.specs.Format.{extensions, extensions_start, extensions_apart, next_update, next_starts}
 
 -- maybe extensions, and nothing more
 unfoldable pub extensions_on : Whole (Option (List Extension))
-extensions_on = optional 0xa1 extensions extensions_start_lem
+extensions_on = optional 0xa1 extensions extensions_start
 
 -- maybe nextUpdate, then maybe extensions
 unfoldable pub next_on : Whole (Option ℕ × Option (List Extension))

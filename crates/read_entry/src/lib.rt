@@ -3,6 +3,8 @@
 //
 // No public function here has a requirement. A wrong place is counted from the start of the part that
 // was lent. Nothing is copied.
+#![tactic(auto)]
+
 mod entries; // up to sixty-four entries
 mod singles; // one entry
 

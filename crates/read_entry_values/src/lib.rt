@@ -3,6 +3,8 @@
 //
 // No public function here has a requirement: octets that are no entry get values too, and they say
 // nothing. Nothing is copied.
+#![tactic(auto)]
+
 mod looks; // the values of an entry
 
 pub use looks::look_at;

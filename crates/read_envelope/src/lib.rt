@@ -2,6 +2,8 @@
 // the basic one and how long the string is that holds the response itself.
 //
 // No public function here has a requirement. What the string holds is not looked at.
+#![tactic(auto)]
+
 ghost use Rattle.std.specs.Prelude.{◌+◌, ◌^◌, ◌<◌, ◌≡◌};
 ghost use Rattle.codec.specs.Sequence.{only};
 ghost use Rattle.layout.specs.Format.{response_bytes, envelope_body, envelope};

@@ -2,6 +2,8 @@
 //
 // No function here has a requirement. The whole layout is not read for it, and no other response is
 // told apart here: the answer for all of them is 0.
+#![tactic(auto)]
+
 ghost use Rattle.std.specs.Prelude.{◌≡◌};
 ghost use Rattle.read_response.specs.Parts.{judged_of};
 ghost use Rattle.read_response.specs.Refusals.{refusal_of};

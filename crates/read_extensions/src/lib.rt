@@ -2,6 +2,8 @@
 //
 // No public function here has a requirement. A wrong place is counted from the start of the part that
 // was lent; a repeated OID is wrong at the tag of the second one.
+#![tactic(auto)]
+
 mod list; // the list, and what is around it
 
 pub use list::{read_extensions, read_list};

@@ -2,6 +2,8 @@
 // copied.
 //
 // No public function here has a requirement. A place is counted from the start of the part that was lent.
+#![tactic(auto)]
+
 mod names; // the OID at the head of a list, and those of the first extensions
 
 pub use names::{is_new, name_at};

@@ -2,6 +2,8 @@
 // refusal it gives before any question is asked.
 //
 // No public function here has a requirement. A response is gone over once; nothing is copied.
+#![tactic(auto)]
+
 mod basics; // the basic response
 mod refusals; // the refusal
 mod whole; // the response as a whole

@@ -3,6 +3,8 @@
 // is told by its first octet. It reads no element itself.
 //
 // No function here has a requirement. A place is held to the end of its part.
+#![tactic(auto)]
+
 mod judged; // an answer made of answers
 
 pub use judged::{after, closed, filled, starts_with};

@@ -3,6 +3,8 @@
 //
 // No public function here has a requirement. A wrong place is counted from the start of the part that
 // was lent.
+#![tactic(auto)]
+
 mod certificates; // up to 8 certificates
 mod responders; // a Name, or a key's hash
 

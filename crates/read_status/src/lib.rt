@@ -3,6 +3,8 @@
 //
 // No function here has a requirement. A wrong place is counted from the start of the part that was
 // lent.
+#![tactic(auto)]
+
 mod statuses; // good, revoked, unknown
 
 pub use statuses::read_status;

@@ -2,6 +2,8 @@
 //
 // The public function has no requirement: a card that does not fit and a buffer that is too short get
 // a refusal, and the buffer stays as it was.
+#![tactic(auto)]
+
 mod parts; // the request's parts, each at its place
 mod writers; // the request
 

@@ -12,7 +12,7 @@ use mir.Val.{Fits}
 use Rattle.octets.specs.Octets.{Octets}
 use Rattle.octets.specs.OctetsLaws.{octets_from, octets_take}
 use Rattle.octets.specs.Buffer.{put_in}
-use Rattle.hex.specs.Hex.{hex_line}
+use Rattle.hexadecimal.specs.Hex.{hex_line}
 use Rattle.desk_intake.specs.Kept.{Holds}
 use Rattle.desk_intake.specs.Read.{ReadAs}
 use Rattle.desk_intake.specs.declared.Input.{Input}

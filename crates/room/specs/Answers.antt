@@ -2,7 +2,7 @@
 -- Answers; Inside. What reading leaves in the space is in crate desk_intake (Read), the answer in crate cache_line (Reply).
 -- Assumes nothing.
 use Rattle.std.specs.Prelude.{ℕ, ◌≤◌, ◌≡◌, List, length, take}
-use Rattle.hex.specs.Hex.{hex_line}
+use Rattle.hexadecimal.specs.Hex.{hex_line}
 use Rattle.desk_intake.specs.Read.{ReadAs}
 use Rattle.desk_intake.specs.declared.Input.{Input}
 use Rattle.cache_line.specs.declared.Reply.{Reply}

@@ -2,21 +2,65 @@
 // it, for a new cache and an accepted filing, the 5,568 octets of the cache as it is then. Crate cache_line
 // has the form of both.
 //
-// What is kept of the input is answered as the whole input would be (cache_line: WholeLaws). A read that fails
-// is told on standard error, and the line is that of an empty input, refusal 1. What becomes of the octets
-// that are written no contract says; what is assumed of a read is in crate desk_input.
+// Reading goes on to the end of the input, whatever its length. What is kept of it is answered as the whole
+// input would be (cache_line: WholeLaws). A read that fails is not the end: it is told on standard error,
+// and the line is that of an empty input, refusal 1.
+//
+// No contract says which octets the operating system hands over, or what becomes of those that are
+// written: that a read puts them at the start of the chunk, in order, and answers 0 only at the end of
+// the input, is assumed.
 //
 // The example: a list at the time 150 of a cache whose first four places are a good card from 100 to 200,
 // empty, a revoked one from 100 to 149, and an unknown one from 151.
+#![tactic(auto)]
+
 ghost use Rattle.std.specs.Prelude.{◌≤◌, length};
-ghost use Rattle.desk_intake.specs.Read.{WasRead};
+ghost use Rattle.desk_intake.specs.Read.{Onward, WasRead};
 ghost use Rattle.cache_line.specs.Input.{cache_room_least};
 ghost use Rattle.cache_line.specs.SizeLaws.{line_most, cache_most};
 ghost use Rattle.room.specs.Answers.{Answers, Inside};
 
 use cache_line::{CACHE, LINE, ROOM, Reply};
 use desk_intake::Input;
-use libc::STDOUT_FILENO;
+use libc::{STDIN_FILENO, STDOUT_FILENO};
+
+// Reads once more, and keeps what came after the octets that are kept.
+fn read_more(space: &mut [u8], done: usize) -> Input
+    ensures { Onward space.old done space.new result }
+{
+    let mut chunk = io::buffer();
+    let got = libc::read(STDIN_FILENO, &mut chunk);
+    if got < 0 {
+        return Input::Failed;
+    }
+    let n = io::count(got, &chunk);
+    if n == 0 {
+        return Input::End(done);
+    }
+    let next = desk_intake::keep(space, done, &chunk[..n]);
+    Input::More(next)
+}
+
+// Reads to the end. A proved loop has to end, so it counts its turns down from a number that no run
+// uses up.
+fn read_all(space: &mut [u8]) -> Input
+    ensures { WasRead space.new result }
+{
+    let mut done = 0;
+    let mut turns = u64::MAX;
+    while 0 < turns {
+        turns -= 1;
+        let input = read_more(space, done);
+        match input {
+            Input::More(next) => {
+                done = next;
+            }
+            Input::End(n) => return Input::End(n),
+            Input::Failed => return Input::Failed,
+        }
+    }
+    Input::Failed
+}
 
 // Answers the input that was read, or an empty one where reading failed. In a space with room enough, and
 // buffers with room for every answer, the answer is that to the whole input, and all of it is there.
@@ -35,12 +79,21 @@ fn answer_input(space: &[u8], input: Input, line: &mut [u8], cache: &mut [u8]) -
     }
 }
 
+// Tells where reading failed.
+fn tell_failure(input: Input) {
+    match input {
+        Input::More(_) => (),
+        Input::End(_) => (),
+        Input::Failed => os::fail(b"room: standard input"),
+    }
+}
+
 // Writes the line and the cache behind it to standard output.
 fn say_input(space: &[u8], input: Input)
     requires cache_room_least_in_bounds { cache_room_least ≤ length space.now }
     requires was_read { WasRead space.now input }
 {
-    desk_input::tell_failure(input, b"room: standard input");
+    tell_failure(input);
     let mut line = [0u8; LINE];
     let mut cache = [0u8; CACHE];
     let reply = answer_input(space, input, &mut line, &mut cache);
@@ -52,6 +105,6 @@ fn say_input(space: &[u8], input: Input)
 
 fn main() {
     let mut space = [0u8; ROOM];
-    let input = desk_input::read_all(&mut space);
+    let input = read_all(&mut space);
     say_input(&space, input);
 }

@@ -1,6 +1,6 @@
 -- The check cut in two says what the table says: the response judged as a whole (2 to 9), then one card
 -- (10 to 16).
--- entries_for_lem; CardKnown, card_known; check_by_parts, error_answer. The definitions are in CardRuled and EntryRuled, in Opened of crate
+-- CardKnown, card_known; check_by_parts, error_answer. The definitions are in CardRuled and EntryRuled, in Opened of crate
 -- opened and in Ruling of crate rules; a question out of range is out-of-range in RefusalLaws of crate rules.
 -- Assumes nothing.
 use Rattle.std.specs.Prelude.{ℕ, ◌-◌, ◌^◌, ◌≤◌, ◌<◌, ◌≡◌, Bool, cond, ◌&&◌, List, [], ◌∷◌, get_or, drop}
@@ -55,8 +55,7 @@ use Rattle.rule_check.specs.EntryRuledLaws.{seen_ruled_lem, entry_answer}
 use Rattle.rule_check.specs.CardRuled.{found_ruled, card_ruled, opened_ruled}
 
 -- ── the entries for the card ──
--- by the search, and by the table
-pub entries_for_lem : (card : Card) (l : List Entry) → for_card card l ≡ entries_for card l
+entries_for_lem : (card : Card) (l : List Entry) → for_card card l ≡ entries_for card l
 unfolding for_card entries_for
 entries_for_lem card [] = refl
 entries_for_lem card (e ∷ l) = rw (entries_for_lem card l)

@@ -1,5 +1,3 @@
 pub mod Search
 pub mod SearchLaws
 pub mod FoundLaws
-pub mod OrdinalLaws
-pub mod WithinLaws

@@ -1,6 +1,8 @@
 // Which entries of a response are for a card, by their headers and the octets of their CertIDs.
 //
 // No public function here has a requirement. The search leaves off at the second entry for the card.
+#![tactic(auto)]
+
 mod entries; // the search
 
 pub use entries::search;

@@ -1,7 +1,7 @@
 -- Critical extensions that are not understood, by the octets of extensions and by their reading: the
 -- place that crate read_critical finds is there exactly where some extension is so.
--- Alike, response_alike, entry_alike; strange_response, strange_entry. The definitions are in StrangePlace, in Signer of crate
--- rules and in Strange of crate read_critical.
+-- strange_response, strange_entry. The definitions are in StrangePlace, in Signer of crate rules and in Strange of
+-- crate read_critical.
 -- Assumes nothing.
 use Rattle.std.specs.Prelude.{ℕ, ◌^◌, ◌<◌, ◌≡◌, Bool, ◌&&◌, not, length}
 use Rattle.std.proofs.Math.Path.{refl, ap}
@@ -32,10 +32,10 @@ same_sym a b = go (same_of a b) (same_of b a) refl refl
     go false true p q = impossible (sym p ∙ ap (λ (x : List ℕ). same_of a x) (same_true b a q) ∙ same_refl a)
 
 -- the known OIDs as a test and as a list
-abbrev pub Alike : List (List ℕ) → (List ℕ → Bool) → Type 0
+abbrev Alike : List (List ℕ) → (List ℕ → Bool) → Type 0
 Alike l known = (o : List ℕ) → new_to l o ≡ not (known o)
 
-pub response_alike : Alike response_known in_response
+response_alike : Alike response_known in_response
 unfolding new_to
 response_alike o = rw (same_sym (ocsp_oid 2) o, same_sym (ocsp_oid 9) o) (go (same_of o (ocsp_oid 2)) (same_of o (ocsp_oid 9)))
   where
@@ -44,7 +44,7 @@ response_alike o = rw (same_sym (ocsp_oid 2) o, same_sym (ocsp_oid 9) o) (go (sa
     go false true = refl
     go false false = refl
 
-pub entry_alike : Alike entry_known in_entry
+entry_alike : Alike entry_known in_entry
 unfolding new_to
 entry_alike o = rw (same_sym (ocsp_oid 6) o) (go (same_of o (ocsp_oid 6)))
   where

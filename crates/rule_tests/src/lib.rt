@@ -3,8 +3,10 @@
 //
 // No public function here has a requirement: any question and Name are judged, and any octets are looked at
 // as extensions.
-mod lists; // the OIDs that are understood, and where another is critical
+#![tactic(auto)]
+
+mod lists; // the OIDs that are understood, and whether another is critical
 mod questions; // whether a question is in range
 
-pub use lists::{place_in_entry, place_in_response, strange_in_entry, strange_in_response};
+pub use lists::{strange_in_entry, strange_in_response};
 pub use questions::question_fits;

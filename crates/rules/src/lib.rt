@@ -3,6 +3,8 @@
 //
 // Definitions and laws of readings and answers, and the question's type; there is no function here. The
 // code that answers by these rules is in the crates above.
+#![tactic(auto)]
+
 use answer::Card;
 
 // The question, but for the signer's Name, which is lent beside it. Verdict, role and marks are the

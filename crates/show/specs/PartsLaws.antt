@@ -1,5 +1,5 @@
 -- Laws of the parts that are shown: they lie inside the response, and the octets there are those that are shown.
--- part_lent; signed_inside, entries_inside, extensions_inside, algorithm_inside, signature_inside, list_inside; signed_octets, signature_octets.
+-- part_lent; signed_inside, algorithm_inside, signature_inside, list_inside; signed_octets, signature_octets.
 -- `Octets s` says that the numbers of a list are octets; of a call's response its type says so, a slice of `u8`.
 -- The definitions are in Parts and Shown. Assumes nothing.
 use Rattle.std.specs.Prelude.{ℕ, ◌+◌, ◌≤◌, ◌≡◌, List}
@@ -11,7 +11,7 @@ use Rattle.octets.specs.LentLaws.{Known, known_octets}
 use Rattle.layout.specs.Reading.{Basic, basic}
 use Rattle.layout.specs.Read.{reads, reading}
 use Rattle.read_response.specs.Parts.{judged_of, parts_in}
-use Rattle.read_response.specs.PartsLaws.{signed_stands, entries_stand, extensions_stand, algorithm_stands, signature_stands, certificates_stand}
+use Rattle.read_response.specs.PartsLaws.{signed_stands, algorithm_stands, signature_stands, certificates_stand}
 use Rattle.read_response.specs.JudgedLaws.{judged_basic}
 use Rattle.read_response.specs.declared.Span.{Span}
 use Rattle.read_response.specs.declared.Parts.{Parts}
@@ -46,12 +46,6 @@ module _ (s : List ℕ) where
   module _ (o : Octets s) where
     pub signed_inside : (shown_parts (judged_of s)).signed.start + (shown_parts (judged_of s)).signed.len ≤ length s
     signed_inside = part_inside (λ p. p.signed) refl (λ b r. (signed_stands s b o r).inside)
-
-    pub entries_inside : (shown_parts (judged_of s)).entries.start + (shown_parts (judged_of s)).entries.len ≤ length s
-    entries_inside = part_inside (λ p. p.entries) refl (λ b r. (entries_stand s b o r).inside)
-
-    pub extensions_inside : (shown_parts (judged_of s)).extensions.start + (shown_parts (judged_of s)).extensions.len ≤ length s
-    extensions_inside = part_inside (λ p. p.extensions) refl (λ b r. (extensions_stand s b o r).inside)
 
     pub algorithm_inside : (shown_parts (judged_of s)).algorithm.start + (shown_parts (judged_of s)).algorithm.len ≤ length s
     algorithm_inside = part_inside (λ p. p.algorithm) refl (λ b r. (algorithm_stands s b o r).inside)

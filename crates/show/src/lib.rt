@@ -3,6 +3,8 @@
 //
 // No public function here has a requirement. Nothing is copied: a part that is shown is a part of the
 // caller's own octets, and an entry is told by its place in them.
+#![tactic(auto)]
+
 mod entries; // the entries one by one
 mod parts; // where the parts are, the signed part and the signature
 

@@ -2,6 +2,8 @@
 //
 // No function here has a requirement. A wrong place is counted from the start of the part that was
 // lent. An element beyond the depth is refused at its first octet.
+#![tactic(auto)]
+
 mod heads; // short headers
 
 ghost use Rattle.std.specs.Prelude.{◌≡◌};

@@ -1,6 +1,8 @@
 // Runs many cases in one go: reads them one after the other from standard input, each an octet of
 // operation, four octets of length and a body, and writes a line for each. tests/README.md says what
 // the cases and their lines are.
+#![tactic(auto)]
+
 mod papers; // requests and slips
 mod parts; // parts of a response
 mod runs; // runs over a cache
@@ -33,13 +35,6 @@ fn say_place(body: &[u8]) {
         return;
     }
     say_asked(&body[..353], &body[353..]);
-}
-
-// The line of the program why.
-fn say_reason(body: &[u8]) {
-    let mut line = [0u8; 46];
-    let n = desk_line::why_line_for(body, &mut line);
-    say::say(&line[..n]);
 }
 
 fn say_case(operation: u8, body: &[u8]) {
@@ -81,10 +76,6 @@ fn say_case(operation: u8, body: &[u8]) {
     }
     if operation == 10 {
         say_place(body);
-        return;
-    }
-    if operation == 11 {
-        say_reason(body);
         return;
     }
     say::say(b"-\n");

@@ -4,6 +4,8 @@
 // No public function here has a requirement. `start` makes a walk, `next` makes a step of a lent walk, and
 // `step_from` does both at a place. At the end, and with a refusal, a step hands out nothing and the place
 // stays.
+#![tactic(auto)]
+
 mod walks; // a walk made and stepped
 
 pub use walks::{next, start, step_from};

@@ -1,6 +1,8 @@
 // What a walk over the entries of a response is: it keeps the lent response and its place in it, the place
 // being the number of entries handed out. A place may be any number. Four types, definitions and the
 // theorems about them; the code is in the crates above.
+#![tactic(auto)]
+
 use show::Entry;
 
 // A walk over the entries of a lent response.

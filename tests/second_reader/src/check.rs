@@ -83,7 +83,7 @@ fn refuse_if(applies: bool, number: u8) -> Result<(), Refusal> {
 
 /// 01: "Responder ids compare by key hash, or by the whole Name octet by
 /// octet."
-pub fn signer_is_responder(question: &Question, reading: &Reading) -> bool {
+fn signer_is_responder(question: &Question, reading: &Reading) -> bool {
     match &reading.responder {
         Responder::ByKey(key) => *key == question.signer_key_hash,
         Responder::ByName(name) => write::tree(name).octets() == question.signer_name,
@@ -92,17 +92,15 @@ pub fn signer_is_responder(question: &Question, reading: &Reading) -> bool {
 
 /// Whether every critical extension is one of those understood.
 fn understood(extensions: &Option<Vec<Extension>>, known: &[&[u8]]) -> bool {
-    extensions.iter().flatten().all(|extension| is_understood(extension, known))
-}
-
-/// Whether an extension is not critical, or one of those understood.
-pub fn is_understood(extension: &Extension, known: &[&[u8]]) -> bool {
-    !extension.critical || known.contains(&extension.oid.as_slice())
+    extensions
+        .iter()
+        .flatten()
+        .all(|extension| !extension.critical || known.contains(&extension.oid.as_slice()))
 }
 
 /// 01: "An entry is for the card if its algorithm is SHA-1 (content 2B 0E 03
 /// 02 1A, parameters absent or 05 00), both hashes and the serial are equal."
-pub fn is_for(entry: &Entry, card: &Card) -> bool {
+fn is_for(entry: &Entry, card: &Card) -> bool {
     is_sha_1(&entry.id.algorithm)
         && entry.id.name_hash == card.name_hash
         && entry.id.key_hash == card.key_hash

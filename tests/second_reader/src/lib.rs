@@ -9,8 +9,8 @@
 //! octets (`element`, `oid`, `serial`, `time`), what they mean (`reading`,
 //! `layout`, `parts`) and what does not fit (`misfit`), what is asked
 //! (`question`), what is answered (`check`, `shown`), what is written (`piece`,
-//! `write`, `request`, `slip`), what is kept (`cache`, `filing`), the two programs
-//! (`desk`, `why`), and the cases that are run against others (`cases`).
+//! `write`, `request`, `slip`), what is kept (`cache`, `filing`), the program
+//! (`desk`), and the cases that are run against others (`cases`).
 
 pub mod cache;
 pub mod cases;
@@ -32,7 +32,6 @@ pub mod serial;
 pub mod shown;
 pub mod slip;
 pub mod time;
-pub mod why;
 pub mod words;
 pub mod write;
 

@@ -50,8 +50,6 @@ pub fn basic(octets: &[u8], base: usize) -> Result<Basic, Misfit> {
         signature: Span { from: bits.start + 1, len: bits.end - bits.start - 1 },
         certificates: place,
         entries: signed.spans,
-        extensions: signed.extension_places,
-        entry_extensions: signed.entry_places,
     })
 }
 
@@ -67,9 +65,7 @@ struct SignedPart {
     produced_at: u64,
     entries: Vec<Entry>,
     spans: Vec<Span>,
-    entry_places: Vec<Vec<usize>>,
     extensions: Option<Vec<Extension>>,
-    extension_places: Vec<usize>,
 }
 
 fn signed_part(element: &Element) -> Result<SignedPart, Misfit> {
@@ -85,16 +81,13 @@ fn signed_part(element: &Element) -> Result<SignedPart, Misfit> {
     let list = holder.need(0x30, SIGNED)?;
     let mut entries = Vec::new();
     let mut spans = Vec::new();
-    let mut entry_places = Vec::new();
     for_each(list, 64, SIGNED, |holder| {
         let element = holder.need(0x30, ENTRY)?;
-        let (entry, places) = entry(element)?;
-        entries.push(entry);
+        entries.push(entry(element)?);
         spans.push(span(element));
-        entry_places.push(places);
         Ok(())
     })?;
-    let (extensions, extension_places) = maybe_extensions(&mut holder)?;
+    let extensions = maybe_extensions(&mut holder)?;
     holder.filled(FILLED)?;
     Ok(SignedPart {
         version_written,
@@ -103,9 +96,7 @@ fn signed_part(element: &Element) -> Result<SignedPart, Misfit> {
         produced_at,
         entries,
         spans,
-        entry_places,
         extensions,
-        extension_places,
     })
 }
 

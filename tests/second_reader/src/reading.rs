@@ -102,7 +102,7 @@ impl Span {
     }
 }
 
-/// A reading together with the places that are shown or told to the caller.
+/// A reading together with the places that are shown to the caller.
 #[derive(Debug, Clone, PartialEq, Eq)]
 pub struct Basic {
     pub reading: Reading,
@@ -113,8 +113,4 @@ pub struct Basic {
     /// Without the A0 and the sequence around them; none at all is 0 and 0.
     pub certificates: Span,
     pub entries: Vec<Span>,
-    /// The place of each of the response's extensions, and of each of an entry's,
-    /// entry by entry.
-    pub extensions: Vec<usize>,
-    pub entry_extensions: Vec<Vec<usize>>,
 }

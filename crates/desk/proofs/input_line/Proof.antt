@@ -1,8 +1,7 @@
 -- `desk::input_line` meets its contract: the line of what is kept is that of the whole input. Assumes nothing.
 use borrow.Author.Rules.{rules}
 use Rattle.desk_intake.specs.ReadLaws.{end_counted}
-use Rattle.desk_intake.specs.SameLineLaws.{kept_same_line}
-use Rattle.desk_input.specs.SaysLaws.{says_end, says_more, says_failed}
+use Rattle.desk.proofs.Cases.{says_end, says_more, says_failed}
 use Rattle.desk.proofs.input_line.Statement.{statement}
 use Rattle.desk.proofs.input_line.Tie as tie
 
@@ -22,6 +21,6 @@ input-line-spec =
     (λ c. search rules)
     (λ c. search says_more)
     (λ c. search rules)
-    (λ c. search (says_end, kept_same_line))
+    (λ c. search says_end)
     (λ c. search rules)
     (λ c. search says_failed))

@@ -8,7 +8,6 @@ pub say-input-spec : {M : Type 1} → statement M
 say-input-spec =
     tie.close
     (tie.spec
-    (λ c. search rules)
     (λ c κs. search rules)
     (λ c. search rules)
     (λ c. search rules)

@@ -8,7 +8,7 @@ use std::process::ExitCode;
 use second_reader::cases::answers::{kind_line, line, parts_line, place_line};
 use second_reader::cases::counts::Counts;
 use second_reader::cases::record::{read_stream, Record, RUN};
-use second_reader::cases::{generate, misfits, paired, pairs, published, run, runs, table, whys};
+use second_reader::cases::{generate, misfits, paired, pairs, published, run, runs, table};
 use second_reader::hex;
 
 const USE: &str = "cases published DIR            a stream of cases about the *.der in DIR
@@ -17,7 +17,6 @@ cases generate SEED COUNT      cases made from a seed
 cases runs SEED COUNT          runs over one cache, made from a seed
 cases misfits DIR SEED COUNT   cases for the place: the *.der in DIR and made ones, damaged
 cases pairs DIR SEED COUNT     pairs of responses with the same signed part, and controls
-cases whys DIR SEED COUNT      cases for the reason: the *.der in DIR and made ones, for every number
 cases answers < STREAM         one line of answer for each case
 cases places < STREAM          the place for each desk's input that gives 3, else -
 cases parts < STREAM           what is shown of each desk case's response, else -
@@ -68,11 +67,6 @@ fn obey(words: &[&str]) -> Result<(), String> {
             let all = published::read_folder(Path::new(folder))?;
             let seed = number(seed)?;
             write_stream((0..number(count)?).flat_map(|index| pairs::case(&all, seed, index)))
-        }
-        ["whys", folder, seed, count] => {
-            let all = published::read_folder(Path::new(folder))?;
-            let seed = number(seed)?;
-            write_stream((0..number(count)?).map(|index| whys::case(&all, seed, index)))
         }
         ["answers"] => write_lines(line),
         ["places"] => write_lines(|record| Ok(place_line(record))),

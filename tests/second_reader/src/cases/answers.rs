@@ -10,7 +10,6 @@ use crate::reading::Span;
 use crate::request::write_request;
 use crate::shown::{algorithm, certificates, responder_id, signature, signed_part, Step, Walk};
 use crate::slip::{read_slip, write_slip};
-use crate::why;
 
 /// The answer's line, without its line feed.
 pub fn line(record: &Record) -> Result<String, String> {
@@ -44,7 +43,6 @@ pub fn line(record: &Record) -> Result<String, String> {
         (RUN, _) => run::line(body),
         (RESPONDER_ID, _) => placed_line(responder_id(body)),
         (PLACE, _) => place_line(record),
-        (WHY, _) => why::line(body).trim_end().to_string(),
         (operation, length) => {
             return Err(format!("no record has operation {operation} and {length} octets"));
         }
@@ -86,7 +84,7 @@ fn written(size: u8, write: impl FnOnce(&mut [u8]) -> Result<usize, u8>) -> Stri
 /// 3.
 pub fn misfit(record: &Record) -> Option<Misfit> {
     match record.operation {
-        DESK | PLACE | WHY => desk::misfit(&record.body),
+        DESK | PLACE => desk::misfit(&record.body),
         _ => None,
     }
 }

@@ -3,7 +3,6 @@
 use std::collections::BTreeMap;
 
 use super::answers::{line, misfit};
-use super::reasons;
 use super::record::*;
 use super::run;
 use super::version;
@@ -31,7 +30,6 @@ fn outcome(record: &Record) -> String {
         RESPONDER_ID if first == "0" => "09 responder id: shown".to_string(),
         RESPONDER_ID => format!("09 responder id: refusal {first}"),
         PLACE => format!("10 place: {}", answer_in_words(&record.body)),
-        WHY => format!("11 why: {}", answer_in_words(&record.body)),
         _ => "no record".to_string(),
     }
 }
@@ -62,7 +60,7 @@ fn written_or(line: &str) -> String {
 fn version_outcome(record: &Record) -> Option<String> {
     let body = record.body.as_slice();
     match record.operation {
-        DESK | PLACE | WHY => version::outcome(desk::response_in(body), desk::judged(body).err()),
+        DESK | PLACE => version::outcome(desk::response_in(body), desk::judged(body).err()),
         RESPONDER_ID => version::outcome(body, responder_id(body).err()),
         _ => None,
     }
@@ -77,49 +75,27 @@ fn misfit_outcomes(record: &Record) -> Vec<String> {
     let Some(misfit) = misfit(record) else {
         return vec![];
     };
-    let part = part_of_misfit(desk::response_in(&record.body));
-    vec![format!("misfit: {}", misfit.kind.words()), format!("misfit in the {part}")]
-}
-
-/// The part of a response in which something does not fit.
-pub fn part_of_misfit(response: &[u8]) -> &'static str {
-    match layout::envelope(response) {
+    let part = match layout::envelope(desk::response_in(&record.body)) {
         Ok(_) => "basic response",
         Err(_) => "envelope",
-    }
-}
-
-/// What is said of the reason, where a record asks for it.
-fn why_outcomes(record: &Record) -> Vec<String> {
-    match record.operation {
-        WHY => reasons::outcomes(&record.body),
-        _ => vec![],
-    }
+    };
+    vec![format!("misfit: {}", misfit.kind.words()), format!("misfit in the {part}")]
 }
 
 /// Counts of outcomes.
 #[derive(Default)]
 pub struct Counts {
     counts: BTreeMap<String, usize>,
-    /// Whether there is a record that asks for the reason.
-    of_whys: bool,
 }
 
 impl Counts {
-    /// Counts what comes of a record.  With the first that asks for a reason, what has
-    /// to come in a stream of them is named.
     pub fn add(&mut self, record: &Record) {
-        if record.operation == WHY && !self.of_whys {
-            self.of_whys = true;
-            reasons::expected().into_iter().for_each(|outcome| self.name(outcome));
-        }
         let outcomes = match record.operation {
             RUN => run::outcomes(&record.body),
             _ => [Some(outcome(record)), version_outcome(record)]
                 .into_iter()
                 .flatten()
                 .chain(misfit_outcomes(record))
-                .chain(why_outcomes(record))
                 .collect(),
         };
         outcomes.into_iter().for_each(|outcome| self.note(outcome));

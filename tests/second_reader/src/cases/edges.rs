@@ -65,15 +65,10 @@ fn add(rng: &mut Rng, scene: &mut Scene, other: crate::reading::Entry) {
     }
 }
 
-/// 0, 1, 64 and 65 entries.
+/// 0, 1, 64 and 65 entries, the one for the card anywhere among them.
 fn entries(rng: &mut Rng, scene: &mut Scene) {
-    let count = *rng.pick(&[0, 0, 1, 63, 64, 64, 64, 65, 65, 66]);
-    among(rng, scene, count);
-}
-
-/// So many entries, the one for the card first, last or in the middle.
-pub fn among(rng: &mut Rng, scene: &mut Scene, count: usize) {
     let entry = scene.entry().clone();
+    let count = *rng.pick(&[0, 0, 1, 63, 64, 64, 64, 65, 65, 66]);
     scene.reading.entries = (0..count).map(|_| near_miss(rng, &entry)).collect();
     if count > 0 {
         scene.target = *rng.pick(&[0, count - 1, count / 2]);

@@ -126,7 +126,7 @@ fn refused(rng: &mut Rng, mut scene: Scene, number: u8) -> Asked {
 
 /// Longer than any response: well built, or a good one with more after it, or
 /// nothing of sense.
-pub fn too_long(rng: &mut Rng, scene: &mut Scene) -> Vec<u8> {
+fn too_long(rng: &mut Rng, scene: &mut Scene) -> Vec<u8> {
     let octets = *rng.pick(&[16_385, 16_385, 16_386, 16_400, 16_737, 17_000]);
     match rng.below(4) {
         0 | 1 => {

@@ -61,7 +61,7 @@ fn made(rng: &mut Rng) -> (Question, Vec<u8>) {
 }
 
 /// The octets of a response after damage of some kind.
-pub fn damaged(rng: &mut Rng, mut piece: Piece) -> Vec<u8> {
+fn damaged(rng: &mut Rng, mut piece: Piece) -> Vec<u8> {
     match rng.below(100) {
         0 | 1 => {}
         2 | 3 => return few_octets(rng, &piece.octets()),

@@ -135,11 +135,6 @@ pub fn null() -> Tree {
     Tree::Primitive { tag: 0x05, contents: vec![] }
 }
 
-/// The OID of SHA-256.
-pub fn sha_256() -> Vec<u8> {
-    oid::from_numbers(&[2, 16, 840, 1, 101, 3, 4, 2, 1])
-}
-
 pub fn algorithm(rng: &mut Rng) -> Algorithm {
     let parameters = match rng.below(4) {
         0 => None,

@@ -15,7 +15,6 @@ pub const SLIP_WRITER: u8 = 7;
 pub const RUN: u8 = 8;
 pub const RESPONDER_ID: u8 = 9;
 pub const PLACE: u8 = 10;
-pub const WHY: u8 = 11;
 
 /// Octets of an answer as it stands in a record: kind 1, card 61, thisUpdate 8,
 /// nextUpdate 8, revocationTime 8, reason 1, number 1, status 1.

@@ -207,9 +207,10 @@ pub fn miss(rng: &mut Rng, entry: &mut Entry) {
             id.key_hash.truncate(19);
         }
         6 => {
+            let sha_256 = oid::from_numbers(&[2, 16, 840, 1, 101, 3, 4, 2, 1]);
             let longer = [&oid::SHA_1[..], &[0x11]].concat();
             let shorter = oid::SHA_1[..4].to_vec();
-            id.algorithm.oid = rng.pick(&[random::sha_256(), longer, shorter]).clone();
+            id.algorithm.oid = rng.pick(&[sha_256, longer, shorter]).clone();
         }
         7 => {
             let odd = [

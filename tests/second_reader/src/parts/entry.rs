@@ -10,8 +10,7 @@ use crate::reading::{CertId, Entry, Status};
 use crate::serial::Serial;
 use crate::words::*;
 
-/// The entry, and the place of each of its extensions.
-pub fn entry(element: &Element) -> Result<(Entry, Vec<usize>), Misfit> {
+pub fn entry(element: &Element) -> Result<Entry, Misfit> {
     let mut holder = Holder::of(element);
     let id = cert_id(holder.need(0x30, ENTRY)?)?;
     let status = status(holder.any(ENTRY)?)?;
@@ -25,9 +24,9 @@ pub fn entry(element: &Element) -> Result<(Entry, Vec<usize>), Misfit> {
         }
         None => None,
     };
-    let (extensions, places) = maybe_extensions(&mut holder)?;
+    let extensions = maybe_extensions(&mut holder)?;
     holder.filled(FILLED)?;
-    Ok((Entry { id, status, this_update, next_update, extensions }, places))
+    Ok(Entry { id, status, this_update, next_update, extensions })
 }
 
 fn cert_id(element: &Element) -> Result<CertId, Misfit> {

@@ -8,22 +8,17 @@ use crate::misfit::{Kind, Misfit};
 use crate::reading::Extension;
 use crate::words::*;
 
-/// A list of extensions, or none, and the place of each of them.
-pub type Extensions = (Option<Vec<Extension>>, Vec<usize>);
-
 /// "maybe A1 extensions".
-pub fn maybe_extensions(holder: &mut Holder) -> Result<Extensions, Misfit> {
+pub fn maybe_extensions(holder: &mut Holder) -> Result<Option<Vec<Extension>>, Misfit> {
     let Some(outer) = holder.maybe(0xA1, EXTENSIONS)? else {
-        return Ok((None, vec![]));
+        return Ok(None);
     };
     let mut inner = Holder::of(outer);
     let list = inner.need(0x30, EXTENSIONS)?;
     let mut found: Vec<Extension> = Vec::new();
-    let mut places = Vec::new();
     for_each(list, 16, EXTENSIONS, |items| {
-        let element = items.need(0x30, EXTENSIONS)?;
-        found.push(extension(element, &found)?);
-        places.push(element.place);
+        let next = extension(items.need(0x30, EXTENSIONS)?, &found)?;
+        found.push(next);
         Ok(())
     })?;
     // "Too few items: the end of what holds them."
@@ -31,7 +26,7 @@ pub fn maybe_extensions(holder: &mut Holder) -> Result<Extensions, Misfit> {
         return Err(Misfit::new(Kind::Missing, Holder::of(list).end(), EXTENSIONS));
     }
     inner.filled(FILLED)?;
-    Ok((Some(found), places))
+    Ok(Some(found))
 }
 
 fn extension(element: &Element, earlier: &[Extension]) -> Result<Extension, Misfit> {

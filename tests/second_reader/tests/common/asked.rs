@@ -1,7 +1,6 @@
-//! The question of the tests, answers to it, and what the layout says of a response.
+//! The question of the tests, and answers to it.
 
 use second_reader::check::Answer;
-use second_reader::layout;
 use second_reader::question::{Card, Question};
 
 pub const M1: u64 = 1_114_909_200; // 20050501010000Z
@@ -36,23 +35,4 @@ pub fn refused(number: u8) -> Answer {
 
 pub fn good() -> Answer {
     Answer::Good { card: card(), this_update: M1, next_update: NEXT }
-}
-
-/// The number of the refusal that the layout gives, or 0.
-pub fn layout_number(response: &[u8]) -> u8 {
-    layout::read(response).map_or_else(|refusal| refusal.number, |_| 0)
-}
-
-/// Whether a response fits the layout (0) or not (3); other refusals fail.
-pub fn fits(response: &[u8]) -> bool {
-    match layout_number(response) {
-        0 => true,
-        3 => false,
-        other => panic!("refusal {other} where 0 or 3 was to come"),
-    }
-}
-
-/// The place of a misfit.
-pub fn place_of(response: &[u8]) -> Option<usize> {
-    layout::read(response).err().and_then(|refusal| refusal.place())
 }

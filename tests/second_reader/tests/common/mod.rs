@@ -6,9 +6,9 @@ pub mod asked;
 pub mod pairs;
 pub mod room;
 pub mod small;
-pub mod why;
 
 use second_reader::hex;
+use second_reader::layout;
 
 pub use asked::*;
 
@@ -170,6 +170,25 @@ pub fn nest(depth: usize) -> Vec<u8> {
 /// A NULL inside `depth - 1` constructed elements.
 pub fn nest_around_primitive(depth: usize) -> Vec<u8> {
     (1..depth).fold(h("05 00"), |inner, _| tlv(0x30, &inner))
+}
+
+/// The number of the refusal that the layout gives, or 0.
+pub fn layout_number(response: &[u8]) -> u8 {
+    layout::read(response).map_or_else(|refusal| refusal.number, |_| 0)
+}
+
+/// Whether a response fits the layout (0) or not (3); other refusals fail.
+pub fn fits(response: &[u8]) -> bool {
+    match layout_number(response) {
+        0 => true,
+        3 => false,
+        other => panic!("refusal {other} where 0 or 3 was to come"),
+    }
+}
+
+/// The place of a misfit.
+pub fn place_of(response: &[u8]) -> Option<usize> {
+    layout::read(response).err().and_then(|refusal| refusal.place())
 }
 
 /// Where `part` stands in `whole`; it must stand there once.
