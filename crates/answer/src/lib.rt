@@ -14,7 +14,7 @@ pub use cards::{all_zero, card_fits, empty_card, field_fits, same_card};
 pub use verdicts::{refuse, refuse_at};
 
 // Which reader's card: the issuer's two hashes and the serial's octets, filled up with zeros.
-#[derive(Drop)]
+#[derive(Clone, Copy)]
 pub struct Card {
     pub name: [u8; 20],
     pub key: [u8; 20],
@@ -23,14 +23,14 @@ pub struct Card {
 }
 
 // A reason for a revocation.
-#[derive(Drop)]
+#[derive(Clone, Copy)]
 pub enum Reason {
     Given(u8),
     Absent,
 }
 
 // What a response says of a card.
-#[derive(Drop)]
+#[derive(Clone, Copy)]
 pub enum Verdict {
     Good {
         this: u64,
@@ -54,14 +54,14 @@ pub enum Verdict {
 
 // Where a response does not fit: with refusal 3 the octet that is objected to, counted from the start of
 // the response.
-#[derive(Drop)]
+#[derive(Clone, Copy)]
 pub enum Place {
     Absent,
     At(usize),
 }
 
 // The verdict, with the card that it is about beside it, and the place where the verdict has one.
-#[derive(Drop)]
+#[derive(Clone, Copy)]
 pub struct Answer {
     pub verdict: Verdict,
     pub card: Card,

@@ -11,7 +11,7 @@ pub use finding::find;
 
 // What is found of a card: the position of the place whose slip counts, that no place has it, or a
 // refusal's number.
-#[derive(Drop)]
+#[derive(Clone, Copy)]
 pub enum Sought {
     At(usize),
     NotHeld,

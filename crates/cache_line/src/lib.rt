@@ -17,7 +17,7 @@ mod says; // a number, and what goes with it, as a line
 pub use answers::answer_for;
 
 // How many octets were written: those of the line, and those of the cache that follows it.
-#[derive(Drop)]
+#[derive(Clone, Copy)]
 pub struct Reply {
     pub line: usize,
     pub cache: usize,

@@ -10,7 +10,7 @@ pub const WIDTH: usize = 87;
 pub const PLACES: usize = 64;
 
 // What a filing answers: how many places are then not empty, or a refusal's number.
-#[derive(Drop)]
+#[derive(Clone, Copy)]
 pub enum Filed {
     Count(usize),
     Refused(u8),
@@ -18,14 +18,14 @@ pub enum Filed {
 
 // What an ask answers: that no place has the card, or what its slip says at that time. A refusal is said
 // too.
-#[derive(Drop)]
+#[derive(Clone, Copy)]
 pub enum Asked {
     NotHeld,
     Says(Verdict),
 }
 
 // The same with the card beside it, empty unless an answer is said.
-#[derive(Drop)]
+#[derive(Clone, Copy)]
 pub struct Told {
     pub asked: Asked,
     pub card: Card,

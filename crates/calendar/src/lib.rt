@@ -18,7 +18,7 @@ pub use reading::read_time;
 pub const LAST_SECOND: u64 = 253402300799;
 
 // The seconds since 1970-01-01 00:00:00, or that the octets are no time.
-#[derive(Drop)]
+#[derive(Clone, Copy)]
 pub enum Time {
     At(u64),
     No,

@@ -5,7 +5,7 @@
 #![tactic(auto)]
 
 // One element at the head of a part.
-#[derive(Drop)]
+#[derive(Clone, Copy)]
 pub enum Step {
     // How many octets it takes.
     Taken(usize),
@@ -14,7 +14,7 @@ pub enum Step {
 }
 
 // A part as a whole.
-#[derive(Drop)]
+#[derive(Clone, Copy)]
 pub enum Fit {
     // It is read.
     Fits,

@@ -11,7 +11,7 @@ mod keeping; // one chunk more
 pub use keeping::keep;
 
 // What came of reading: how many octets are kept in the space, and whether there may be more.
-#[derive(Drop)]
+#[derive(Clone, Copy)]
 pub enum Input {
     More(usize),
     End(usize),

@@ -15,7 +15,7 @@ pub use tags::{tag_fits, tag_of};
 pub use writers::put_header;
 
 // The three fields of a tag octet.
-#[derive(Drop)]
+#[derive(Clone, Copy)]
 pub struct Tag {
     pub class: u8,
     pub constructed: bool,
@@ -23,7 +23,7 @@ pub struct Tag {
 }
 
 // What stands at the head of a part.
-#[derive(Drop)]
+#[derive(Clone, Copy)]
 pub enum Header {
     // An element with this tag; its content starts at start and is len octets long.
     Found { tag: u8, start: usize, len: usize },
@@ -32,7 +32,7 @@ pub enum Header {
 }
 
 // What came of writing a header.
-#[derive(Drop)]
+#[derive(Clone, Copy)]
 pub enum Formed {
     // The place after it.
     Next(usize),

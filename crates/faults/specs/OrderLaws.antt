@@ -40,6 +40,7 @@ ascend_cond false k l n v w = w
 -- ── the first ──
 -- none is before where they start
 ascend_least : (a b : ℕ) (l : List ℕ) → Ascending a l b → (q : ℕ) → Among q l → a ≤ q
+ascend_least a b [] h q x = elim x [ ]
 ascend_least a b (p ∷ l) h q (inl e) = omega (arith, h.0)
 ascend_least a b (p ∷ l) h q (inr m) = let i = ascend_least p b l h.1 q m in omega (arith, h.0)
 

@@ -10,7 +10,7 @@ pub use parts::{card_in, hash_at, value_at};
 pub use room::room_for;
 
 // What a writer answers: how many octets it wrote, or why it wrote none.
-#[derive(Drop)]
+#[derive(Clone, Copy)]
 pub enum Output {
     Octets(usize),
     Refused(u8),

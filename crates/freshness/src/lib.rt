@@ -10,21 +10,21 @@ ghost use Rattle.freshness.specs.Fresh.{fresh_of};
 
 // When it is: the time now, in seconds since 1970, and how many seconds past its nextUpdate an answer
 // still counts.
-#[derive(Drop)]
+#[derive(Clone, Copy)]
 pub struct Clock {
     pub now: u64,
     pub tolerance: u64,
 }
 
 // An entry's nextUpdate.
-#[derive(Drop)]
+#[derive(Clone, Copy)]
 pub enum Next {
     At(u64),
     Absent,
 }
 
 // Whether an answer counts, or the first rule that is missed, and by how many seconds.
-#[derive(Drop)]
+#[derive(Clone, Copy)]
 pub enum Freshness {
     // It counts.
     Fresh,

@@ -15,14 +15,14 @@ pub use digits::{number_at, put_number};
 pub use place::put;
 
 // The number that some octets stand for, or that there are no such octets.
-#[derive(Drop)]
+#[derive(Clone, Copy)]
 pub enum Number {
     Is(u64),
     Outside,
 }
 
 // The place after the octets that were written, or that the buffer has no room for them.
-#[derive(Drop)]
+#[derive(Clone, Copy)]
 pub enum Written {
     Next(usize),
     Short,

@@ -12,7 +12,7 @@ pub use signed::signed_body;
 pub use tails::algorithm_and_more;
 
 // Where the parts of the signed part's content are.
-#[derive(Drop)]
+#[derive(Clone, Copy)]
 pub enum Inside {
     // Where the responder id starts, which is after the version; how many octets it takes; where the
     // entries start, counted from there, how many octets they have, and how many they are.
@@ -28,7 +28,7 @@ pub enum Inside {
 }
 
 // Where the signature is, counted from the algorithm's start.
-#[derive(Drop)]
+#[derive(Clone, Copy)]
 pub enum Tail {
     // How many octets the algorithm takes; where the signature starts, and how many octets it has.
     Holds {

@@ -9,7 +9,7 @@ use read_content::Spot;
 use read_entry::Count;
 
 // Where the entries are, counted from a part's start.
-#[derive(Drop)]
+#[derive(Clone, Copy)]
 pub enum Listed {
     // Where they start, how many octets they have, and how many they are.
     Holds {

@@ -10,7 +10,7 @@ mod singles; // contents of one octet, and of none
 pub use singles::{read_code, read_good, read_reason_code, read_true, read_unknown, read_v1};
 
 // The element of one octet at the head of a part.
-#[derive(Drop)]
+#[derive(Clone, Copy)]
 pub enum Code {
     // The octet, and the place after the element.
     Read { value: u8, next: usize },

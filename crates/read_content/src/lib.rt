@@ -10,7 +10,7 @@ mod spots; // contents that stay octets
 pub use spots::{expect, read_any_string, read_bits, read_oid, read_string};
 
 // The content of the element at the head of a part.
-#[derive(Drop)]
+#[derive(Clone, Copy)]
 pub enum Spot {
     // It starts at start and is len octets long.
     At { start: usize, len: usize },

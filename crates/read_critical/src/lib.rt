@@ -11,7 +11,7 @@ mod one; // one extension
 pub use around::strange_place;
 
 // The first critical extension of a part that is not understood.
-#[derive(Drop)]
+#[derive(Clone, Copy)]
 pub enum Strange {
     // There is none.
     None,

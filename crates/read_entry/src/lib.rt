@@ -12,7 +12,7 @@ pub use entries::read_entries;
 pub use singles::read_single;
 
 // The elements of a part.
-#[derive(Drop)]
+#[derive(Clone, Copy)]
 pub enum Count {
     // How many there are.
     Is(usize),

@@ -10,7 +10,7 @@ mod looks; // the values of an entry
 pub use looks::look_at;
 
 // What an entry says of its certificate.
-#[derive(Drop)]
+#[derive(Clone, Copy)]
 pub enum Standing {
     Good,
     // Since this time, in seconds since 1970.
@@ -19,21 +19,21 @@ pub enum Standing {
 }
 
 // The reason of a revocation.
-#[derive(Drop)]
+#[derive(Clone, Copy)]
 pub enum Why {
     Given(u8),
     Absent,
 }
 
 // nextUpdate, in seconds since 1970.
-#[derive(Drop)]
+#[derive(Clone, Copy)]
 pub enum Until {
     At(u64),
     Absent,
 }
 
 // The values of an entry.
-#[derive(Drop)]
+#[derive(Clone, Copy)]
 pub struct View {
     pub standing: Standing,
     // thisUpdate, in seconds since 1970.

@@ -13,7 +13,7 @@ use read_codes::Code;
 use read_content::Spot;
 
 // What an envelope is.
-#[derive(Drop)]
+#[derive(Clone, Copy)]
 pub enum Cover {
     // An error response, with its status.
     Failed(u8),

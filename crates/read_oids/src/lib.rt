@@ -9,7 +9,7 @@ mod names; // the OID at the head of a list, and those of the first extensions
 pub use names::{is_new, name_at};
 
 // The OID of the extension at the head of a part.
-#[derive(Drop)]
+#[derive(Clone, Copy)]
 pub enum Name {
     // It starts at start and is len octets long; the extension takes next octets.
     Is {

@@ -12,7 +12,7 @@ use read_basic::{Inside, Tail};
 use read_content::Spot;
 
 // A basic response's content.
-#[derive(Drop)]
+#[derive(Clone, Copy)]
 pub enum Body {
     // Where its parts are in the response.
     Holds(Parts),
@@ -21,7 +21,7 @@ pub enum Body {
 }
 
 // Where the parts of the signed part are in the response.
-#[derive(Drop)]
+#[derive(Clone, Copy)]
 pub struct Front {
     pub signed: Span,
     pub responder: Span,

@@ -13,14 +13,14 @@ pub use refusals::{refusal_of, refuse};
 pub use whole::judge;
 
 // Some octets of a response: where they start, and how many they are.
-#[derive(Drop)]
+#[derive(Clone, Copy)]
 pub struct Span {
     pub start: usize,
     pub len: usize,
 }
 
 // The parts of a basic response.
-#[derive(Drop)]
+#[derive(Clone, Copy)]
 pub struct Parts {
     // The signed part, header included.
     pub signed: Span,
@@ -41,7 +41,7 @@ pub struct Parts {
 }
 
 // What a response is, before any question is asked.
-#[derive(Drop)]
+#[derive(Clone, Copy)]
 pub enum Judged {
     // A basic response, and where its parts are.
     Basic(Parts),
@@ -56,7 +56,7 @@ pub enum Judged {
 }
 
 // What is refused before any question is asked.
-#[derive(Drop)]
+#[derive(Clone, Copy)]
 pub struct Refusal {
     // Document 01's number, 2 to 5; 0 where there is no refusal.
     pub number: u8,

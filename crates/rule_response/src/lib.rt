@@ -10,7 +10,7 @@ use answer::Place;
 pub use whole::open;
 
 // What a response is for a question, but for its card.
-#[derive(Drop)]
+#[derive(Clone, Copy)]
 pub enum Opened {
     // Refused, with a status where the number is 4, and a place where it is 3.
     Refused {

@@ -8,7 +8,7 @@ mod entries; // the search
 pub use entries::search;
 
 // What was found: ordinals count from 0.
-#[derive(Drop)]
+#[derive(Clone, Copy)]
 pub enum Found {
     // No entry: how many entries there are.
     None(usize),
@@ -26,7 +26,7 @@ pub enum Found {
 }
 
 // What the search sees at a place: no element, or the size of one and whether it is an entry for the card.
-#[derive(Drop)]
+#[derive(Clone, Copy)]
 pub enum Seen {
     End,
     Next { size: usize, here: bool },

@@ -9,7 +9,7 @@ use answer::Card;
 
 // The question, but for the signer's Name, which is lent beside it. Verdict, role and marks are the
 // caller's facts.
-#[derive(Drop)]
+#[derive(Clone, Copy)]
 pub struct Question {
     // The card that is asked about.
     pub card: Card,

@@ -13,7 +13,7 @@ pub use entries::entry_at;
 pub use parts::{octets_at, parts_of, signature, signed_part};
 
 // What stands at an ordinal among the entries.
-#[derive(Drop)]
+#[derive(Clone, Copy)]
 pub enum Entry {
     // The entry, header included: it starts at start and is len octets long.
     At {

@@ -1,0 +1,7 @@
+-- `octets::digits::eight` meets its contract. Assumes nothing.
+use borrow.Author.Rules.{rules}
+use Rattle.octets.proofs.Eights.{eight_high}
+use Rattle.octets.proofs.digits.eight.Goals as goal
+
+pub returns : goal.returns
+returns c = search eight_high

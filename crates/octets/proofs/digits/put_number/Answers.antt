@@ -1,0 +1,37 @@
+-- What is left to show of the loop.
+use mathlib.Core.Path.{◌≡◌, refl, sym, ap, ◌∙◌}
+use Prim.Native.Nat.{ℕ, ◌-◌, ◌/◌, ◌^◌, ◌≤◌}
+use native.Mathlib.Nat.{div-one, sub_self}
+use native.Mathlib.Omega.{arith}
+use lib.ListN.{length, length-set}
+use Rattle.octets.specs.NumberLaws.{octets_length}
+use Rattle.octets.specs.BufferLaws.{put_in_short, put_answer_short, put_answer_room}
+use Rattle.octets.proofs.Turns.{written, written_all, written_left, written_next, written_end}
+use Rattle.octets.proofs.digits.put_number.Goals as goal
+
+pub returns-then-out-at : goal.returns-then-out-at
+returns-then-out-at c = let a = c.args in
+    let w = octets_length a.width a.n in
+    record { value = sym (put_answer_short _ _ _ (omega arith)); out_after = sym (put_in_short _ _ _ (omega arith)) }
+
+pub returns-then-out-at-2 : goal.returns-then-out-at-2
+returns-then-out-at-2 c = let a = c.args in
+    let w = octets_length a.width a.n in
+    record { value = sym (put_answer_short _ _ _ (omega arith)); out_after = sym (put_in_short _ _ _ (omega arith)) }
+
+pub loop-i-init : goal.loop-i-init
+loop-i-init c = let a = c.args in (
+      omega arith,
+      refl,
+      sym (ap (λ (k : ℕ). a.n / 256 ^ k) (sub_self a.width) ∙ div-one a.n),
+      written_all a.out.now a.at a.width a.n,
+    )
+
+pub loop-i-preserved : goal.loop-i-preserved
+loop-i-preserved c = (omega arith, simp length-set (omega arith), search written_left, search written_next)
+
+pub shape_of-out : goal.shape_of-out
+shape_of-out c = c.loop-i.invariant.1
+
+pub returns : goal.returns
+returns c = record { value = sym (put_answer_room _ _ _ (omega arith)); out_after = search written_end }

@@ -1,0 +1,40 @@
+-- `read_cert_id::certs::hashes_and_serial` meets its contract, by the hash and what follows it.
+-- Assumes nothing.
+use borrow.Author.Rules.{rules}
+use Rattle.codec.specs.Sequence.{field, only}
+use Rattle.layout.specs.Kinds.{hash, serial}
+use Rattle.read_content.specs.LastLaws.{last_hash}
+use Rattle.read_sequence.specs.CaseLaws.{string_sum, string_end, spot_wrong, spot_after_lem}
+use Rattle.read_cert_id.proofs.certs.hashes_and_serial.Goals as goal
+
+pub read_string-name-requires : goal.read_string-name-requires
+unfolding hash
+read_string-name-requires c = search rules
+
+pub overflow_add-end : goal.overflow_add-end
+unfolding hash
+overflow_add-end c = search string_sum
+
+pub slice_bounds-key_and_serial-count : goal.slice_bounds-key_and_serial-count
+unfolding hash
+slice_bounds-key_and_serial-count c = search string_end
+
+pub slice_bounds-key_and_serial-start : goal.slice_bounds-key_and_serial-start
+unfolding hash
+slice_bounds-key_and_serial-start c = search string_end
+
+pub key_and_serial-rest-requires : goal.key_and_serial-rest-requires
+unfolding hash
+key_and_serial-rest-requires c = search rules
+
+pub after-requires : goal.after-requires
+unfolding hash
+after-requires c = search rules
+
+pub returns-in-Wrong : goal.returns-in-Wrong
+unfolding hash
+returns-in-Wrong c = search (spot_wrong hash last_hash)
+
+pub returns-in-At : goal.returns-in-At
+unfolding hash
+returns-in-At c = search (spot_after_lem hash last_hash (field hash (only serial)))

@@ -1,0 +1,14 @@
+-- `read_codes::singles::read_good` meets its contract, which is that of an element without content.
+-- Assumes nothing.
+use borrow.Author.Rules.{rules}
+use Rattle.layout.specs.Format.{good_status}
+use Rattle.read_codes.specs.Codes.{empty_at}
+use Rattle.read_codes.proofs.singles.read_good.Goals as goal
+
+pub read_empty-requires : goal.read_empty-requires
+unfolding good_status empty_at
+read_empty-requires c = search rules
+
+pub returns : goal.returns
+unfolding good_status empty_at
+returns c = search rules

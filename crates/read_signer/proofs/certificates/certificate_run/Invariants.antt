@@ -1,0 +1,19 @@
+-- `read_signer::certificates::certificate_run` meets its contract. The loop is at a place up to which count
+-- certificates are read.
+-- Assumes nothing.
+use Prim.Native.Nat.{◌≤◌, ◌-◌}
+use native.Mathlib.Omega.{arith}
+use mathlib.Core.Option.{some}
+use lib.ListN.{length}
+use borrow.Author.Rules.{rules}
+use Rattle.codec.specs.TurnLaws.{fits, Turns, turn_start, turn_end, turn_over, turn_bad, turn_next, turn_place, turn_inside, turn_sum, turn_less}
+use Rattle.codec.specs.Tree.{Tree}
+use Rattle.layout.specs.Kinds.{free_sequence}
+use Rattle.read_signer.specs.Run.{certificate_run}
+use Rattle.read_signer.proofs.certificates.certificate_run.Given as goal
+
+abbrev pub invariant-loop-at : goal.invariant-loop-at
+invariant-loop-at l = (l.at ≤ length l.s) × (l.count ≤ 8) × Turns (fits Tree) (some 8) free_sequence l.s l.at l.count
+
+abbrev pub decreases-loop-at : goal.decreases-loop-at
+decreases-loop-at l = length l.s - l.at
