@@ -1,5 +1,4 @@
 pub mod Codec
-pub mod CodecLaws
 pub mod Outcome
 pub mod PartLaws
 pub mod Contents
@@ -12,16 +11,11 @@ pub mod Maybe
 pub mod Branch
 pub mod Choice
 pub mod Many
-pub mod Any
 pub mod Fixed
 pub mod Each
 pub mod Keys
 pub mod Tree
 pub mod TreeRead
 pub mod TreeTagged
-pub mod StartsLaws
 pub mod Views
-pub mod Examples
-pub mod TreeExamples
-pub mod ViewLaws
 pub mod TurnLaws

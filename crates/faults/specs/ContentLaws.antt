@@ -5,7 +5,7 @@ use Rattle.std.specs.Prelude.{ℕ, ◌≡◌, refl, Bool, true, false, cond, Lis
 use Rattle.std.proofs.Math.Option.{none, some}
 use Rattle.octets.specs.Same.{same_of}
 use Rattle.codec.specs.Codec.{read}
-use Rattle.codec.specs.Outcome.{broke_read}
+use Rattle.codec.proofs.Outcome.{broke_read}
 use Rattle.codec.specs.Contents.{octets_read, fixed_read, or_start, filled_dec}
 use Rattle.codec.specs.Views.{fit_of}
 use Rattle.faults.specs.Faults.{unless}

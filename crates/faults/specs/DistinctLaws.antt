@@ -7,7 +7,7 @@ use Rattle.std.proofs.Math.Path.{sym}
 use Rattle.std.proofs.Common.{ap, ◌∙◌}
 use mathlib.Core.List.{List, [], ◌∷◌}
 use Rattle.codec.specs.Codec.{Read, Got, got}
-use Rattle.codec.specs.Outcome.{renamed_read}
+use Rattle.codec.proofs.Outcome.{renamed_read}
 use Rattle.codec.specs.Contents.{octets_read, filled_dec}
 use Rattle.codec.specs.Tagged.{inner, own, tagged_dec}
 use Rattle.codec.specs.Mapped.{mapped_dec}

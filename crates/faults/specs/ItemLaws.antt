@@ -23,7 +23,7 @@ use Rattle.codec.specs.Tree.{Tree, prim, node, constructed, run_of}
 use Rattle.codec.specs.TreeRead.{node_of, node_dec, tree_dec}
 use Rattle.codec.specs.TreeTagged.{wanted_of, tree_tagged_dec}
 use Rattle.codec.specs.Views.{fit_of}
-use Rattle.codec.specs.ViewLaws.{fit_renamed}
+use Rattle.codec.proofs.ViewLaws.{fit_renamed}
 use Rattle.codec.specs.declared.Fit.{Fit}
 use Rattle.codec.specs.declared.Fit.TheVariants.{Fits, Breaks}
 use Rattle.faults.specs.Faults.{shift, unless, tagged_in, leaf_faults, around_faults, free_in, free_faults, free_with_faults, any_faults}

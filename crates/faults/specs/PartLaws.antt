@@ -12,10 +12,11 @@ use Rattle.element.specs.HeaderLaws.{header_inside, header_tag}
 use Rattle.element.specs.declared.Header.{Header}
 use Rattle.element.specs.declared.Header.TheVariants.{Found, Refused}
 use Rattle.codec.specs.Codec.{Read, read, Got, got}
-use Rattle.codec.specs.Outcome.{bad_got, further_read, renamed_read, on_got_read, attach_got, tested_got}
+use Rattle.codec.proofs.Outcome.{bad_got, further_read, renamed_read, on_got_read, attach_got, tested_got}
 use Rattle.codec.specs.Contents.{octets_read, filled_dec}
 use Rattle.codec.specs.Tagged.{inner, own, tagged_of, tagged_dec}
-use Rattle.codec.specs.Starts.{starts_with, starts_first}
+use Rattle.codec.specs.Starts.{starts_with}
+use Rattle.codec.proofs.Starts.{starts_first}
 use Rattle.codec.specs.Mapped.{mapped_dec}
 use Rattle.codec.specs.Sequence.{end_dec, field_dec, only_dec}
 use Rattle.codec.specs.Branch.{branch_of, branch_dec}

@@ -19,11 +19,12 @@ use Rattle.codec.specs.Sequence.{end_dec, field_dec, only_dec}
 use Rattle.codec.specs.Starts.{starts_with}
 use Rattle.codec.specs.Option.{option_of, option_dec}
 use Rattle.codec.specs.Maybe.{maybe_dec}
-use Rattle.codec.specs.Branch.{branch_of, branch_dec, branch_bad}
+use Rattle.codec.specs.Branch.{branch_of, branch_dec}
+use Rattle.codec.proofs.Branch.{branch_bad}
 use Rattle.codec.specs.Many.{enough, many_dec, all_dec}
 use Rattle.codec.specs.Each.{each_dec}
 use Rattle.codec.specs.Views.{fit_of, later}
-use Rattle.codec.specs.ViewLaws.{fit_further, fit_renamed}
+use Rattle.codec.proofs.ViewLaws.{fit_further, fit_renamed}
 use Rattle.faults.specs.Faults.{shift, unless, content_at, after_in, then_faults, end_faults, perhaps_faults, one_faults, several_faults, any_faults, distinct_faults}
 use Rattle.faults.specs.Order.{leftmost}
 use Rattle.faults.specs.Finds.{Finds, HeadFinds, WholeFinds}

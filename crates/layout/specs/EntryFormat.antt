@@ -8,16 +8,17 @@ use Rattle.std.specs.Prelude.{ℕ, refl, List}
 use Rattle.std.proofs.Math.Option.{Option}
 use Rattle.std.proofs.Common.{lit<}
 use Rattle.codec.specs.Codec.{Whole, Element}
-use Rattle.codec.specs.Contents.{octets_content}
-use Rattle.codec.specs.Tagged.{primitive}
-use Rattle.codec.specs.Sequence.{end, field, only}
-use Rattle.codec.specs.Maybe.{maybe}
-use Rattle.codec.specs.Option.{option}
-use Rattle.codec.specs.Choice.{choice}
-use Rattle.codec.specs.Each.{each, KeyedElement}
-use Rattle.codec.specs.Keys.{new_content, keyed_content, keyed_primitive, keyed_field, keyed_mapped, keyed_tagged}
+use Rattle.codec.proofs.Contents.{octets_content}
+use Rattle.codec.proofs.Tagged.{primitive}
+use Rattle.codec.proofs.Sequence.{end, field, only}
+use Rattle.codec.proofs.Maybe.{maybe}
+use Rattle.codec.proofs.Option.{option}
+use Rattle.codec.proofs.Choice.{choice}
+use Rattle.codec.specs.Each.{KeyedElement}
+use Rattle.codec.proofs.Each.{each}
+use Rattle.codec.proofs.Keys.{new_content, keyed_content, keyed_primitive, keyed_field, keyed_mapped, keyed_tagged}
 use Rattle.codec.specs.Starts.{Starts, Other, Apart}
-use Rattle.codec.specs.StartsLaws.{tagged_starts, primitive_starts, starts_other, only_apart, end_apart, option_apart, choice_other}
+use Rattle.codec.proofs.StartsLaws.{tagged_starts, primitive_starts, starts_other, only_apart, end_apart, option_apart, choice_other}
 use Rattle.content.specs.Oid.{oid_ok}
 use Rattle.layout.specs.Reading.{Algorithm, CertId, Status, Extension, Entry}
 use Rattle.layout.specs.Names.{algorithm, cert, status, extension, extension_of, extension_parts, extension_named, extension_parted, entry}

@@ -8,14 +8,14 @@
 use Rattle.std.specs.Prelude.{ℕ, refl, List}
 use Rattle.std.proofs.Common.{lit<}
 use Rattle.codec.specs.Codec.{Whole, Element}
-use Rattle.codec.specs.Tagged.{primitive}
-use Rattle.codec.specs.Sequence.{field, only}
-use Rattle.codec.specs.Option.{option}
-use Rattle.codec.specs.Choice.{choice}
-use Rattle.codec.specs.Many.{many}
+use Rattle.codec.proofs.Tagged.{primitive}
+use Rattle.codec.proofs.Sequence.{field, only}
+use Rattle.codec.proofs.Option.{option}
+use Rattle.codec.proofs.Choice.{choice}
+use Rattle.codec.proofs.Many.{many}
 use Rattle.codec.specs.Starts.{Starts, Other, Apart}
 use Rattle.codec.specs.Tree.{Tree}
-use Rattle.codec.specs.StartsLaws.{tagged_starts, starts_other, field_apart}
+use Rattle.codec.proofs.StartsLaws.{tagged_starts, starts_other, field_apart}
 use Rattle.layout.specs.Reading.{Entry, Responder, by_name, by_key, Signed, Basic}
 use Rattle.layout.specs.Names.{responder, SignedFields, signed, basic, Envelope, enveloped}
 use Rattle.layout.specs.Words as words

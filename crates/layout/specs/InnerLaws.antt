@@ -10,7 +10,7 @@ use Rattle.element.specs.Header.{header_of}
 use Rattle.element.specs.declared.Header.{Header}
 use Rattle.element.specs.declared.Header.TheVariants.{Found, Refused}
 use Rattle.codec.specs.Codec.{Read, read, Got, got}
-use Rattle.codec.specs.Outcome.{broke_read, bad_got, further_read, renamed_read, on_got_read, attach_got, tested_got}
+use Rattle.codec.proofs.Outcome.{broke_read, bad_got, further_read, renamed_read, on_got_read, attach_got, tested_got}
 use Rattle.codec.specs.Contents.{octets_read, filled_dec}
 use Rattle.codec.specs.Tagged.{tagged_of, tagged_dec}
 use Rattle.codec.specs.Mapped.{mapped_dec}

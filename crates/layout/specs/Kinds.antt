@@ -8,16 +8,16 @@ use Rattle.std.proofs.Math.Option.{Option}
 use Rattle.std.proofs.Common.{lit<}
 use Rattle.element.specs.Tag.{tag_ok}
 use Rattle.codec.specs.Codec.{Whole, Element}
-use Rattle.codec.specs.Contents.{octets_content}
-use Rattle.codec.specs.Tagged.{tagged, primitive}
-use Rattle.codec.specs.Sequence.{end}
-use Rattle.codec.specs.Option.{option}
-use Rattle.codec.specs.Mapped.{mapped}
+use Rattle.codec.proofs.Contents.{octets_content}
+use Rattle.codec.proofs.Tagged.{tagged, primitive}
+use Rattle.codec.proofs.Sequence.{end}
+use Rattle.codec.proofs.Option.{option}
+use Rattle.codec.proofs.Mapped.{mapped}
 use Rattle.codec.specs.Starts.{Starts}
-use Rattle.codec.specs.StartsLaws.{end_apart}
+use Rattle.codec.proofs.StartsLaws.{end_apart}
 use Rattle.codec.specs.Tree.{Tree}
-use Rattle.codec.specs.TreeRead.{tree}
-use Rattle.codec.specs.TreeTagged.{tree_tagged}
+use Rattle.codec.proofs.TreeRead.{tree}
+use Rattle.codec.proofs.TreeTagged.{tree_tagged}
 use Rattle.layout.specs.Words as words
 
 -- ── the tags are tags ──

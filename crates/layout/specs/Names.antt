@@ -6,9 +6,9 @@ use Rattle.std.specs.Prelude.{ℕ, ◌≡◌, refl, Bool, true, false, List, ◌
 use Rattle.std.proofs.Common.{sym, ap, inl, inr, eqb-true}
 use Rattle.std.proofs.Math.Option.{Option, none, some}
 use Rattle.codec.specs.Codec.{Whole, Element}
-use Rattle.codec.specs.Branch.{branch}
-use Rattle.codec.specs.Sequence.{end}
-use Rattle.codec.specs.Mapped.{mapped, mapped_ok, mapped_element}
+use Rattle.codec.proofs.Branch.{branch}
+use Rattle.codec.proofs.Sequence.{end}
+use Rattle.codec.proofs.Mapped.{mapped, mapped_ok, mapped_element}
 use Rattle.codec.specs.Tree.{Tree}
 use Rattle.layout.specs.Reading.{Algorithm, CertId, Status, good, revoked, unknown, Extension, Entry, Responder, by_name, by_key, Signed, Basic}
 

@@ -18,13 +18,13 @@ use Rattle.element.specs.Form.{head_form, head_size, form_of}
 use Rattle.element.specs.FormLaws.{form_length}
 use Rattle.codec.specs.Codec.{Read, read, broke, bad}
 use Rattle.codec.specs.Contents.{fixed_read, filled_dec}
-use Rattle.codec.specs.PartLaws.{form_found, form_content, small_left, small_content}
+use Rattle.codec.proofs.PartLaws.{form_found, form_content, small_left, small_content}
 use Rattle.codec.specs.Tagged.{inner, tagged_dec}
 use Rattle.codec.specs.Mapped.{mapped_dec}
 use Rattle.codec.specs.Sequence.{field_dec, only_dec}
 use Rattle.codec.specs.Option.{option_of, option_dec}
-use Rattle.codec.specs.Starts.{starts_append}
-use Rattle.codec.specs.StartsLaws.{form_starts}
+use Rattle.codec.proofs.Starts.{starts_append}
+use Rattle.codec.proofs.StartsLaws.{form_starts}
 use Rattle.layout.specs.Names.{success}
 use Rattle.layout.specs.Kinds.{tag_02, tag_30, tag_a0}
 use Rattle.layout.specs.Format.{v1, version, signed_body, response_data, basic_body, basic_response, envelope}

@@ -10,8 +10,9 @@ use Rattle.octets.specs.SameLaws.{impossible}
 use Rattle.element.specs.Length.{length_form}
 use Rattle.element.specs.Form.{form_of}
 use Rattle.codec.specs.Codec.{read, got}
-use Rattle.codec.specs.CodecLaws.{got_size}
-use Rattle.codec.specs.Starts.{starts_with, starts_append}
+use Rattle.codec.proofs.CodecLaws.{got_size}
+use Rattle.codec.specs.Starts.{starts_with}
+use Rattle.codec.proofs.Starts.{starts_append}
 use Rattle.layout.specs.Reading.{Signed, with_version}
 use Rattle.layout.specs.Names.{fields_of}
 use Rattle.layout.specs.Format.{v1, version, version_starts, fields_apart, signed_fields, signed_body}

@@ -9,7 +9,7 @@ use Rattle.std.proofs.Math.Option.{Option, none, some}
 use Rattle.octets.specs.Octets.{Octets}
 use Rattle.content.specs.Oid.{oid_ok}
 use Rattle.codec.specs.Codec.{Content}
-use Rattle.codec.specs.Contents.{octets_content, fixed_content}
+use Rattle.codec.proofs.Contents.{octets_content, fixed_content}
 use Rattle.layout.specs.Numbers.{none_some, passed}
 pub use Rattle.layout.specs.Numbers.{seconds_in, time_read_lem, time_full, time_content, serial_read_lem, serial_full, serial_content}
 unfoldable pub use Rattle.layout.specs.Numbers.{time_read, serial_read}

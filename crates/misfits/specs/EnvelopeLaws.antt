@@ -5,7 +5,7 @@ use Rattle.std.specs.Prelude.{ℕ, ◌≡◌, Bool, true, false, List, drop}
 use Rattle.std.proofs.Common.{sym, ap, ◌∙◌, inl, inr}
 use Rattle.content.specs.Oid.{oid_ok}
 use Rattle.codec.specs.Codec.{Read, read, Got, got}
-use Rattle.codec.specs.Outcome.{renamed_read}
+use Rattle.codec.proofs.Outcome.{renamed_read}
 use Rattle.codec.specs.Contents.{octets_read, filled_dec}
 use Rattle.codec.specs.Tagged.{inner, own, tagged_dec}
 use Rattle.codec.specs.Mapped.{mapped_dec}

@@ -10,7 +10,7 @@ use Rattle.calendar.specs.Time.{time_of, is_time}
 use Rattle.calendar.specs.declared.Time.{Time}
 use Rattle.calendar.specs.declared.Time.TheVariants.{At, No}
 use Rattle.codec.specs.Codec.{read}
-use Rattle.codec.specs.Outcome.{broke_read}
+use Rattle.codec.proofs.Outcome.{broke_read}
 use Rattle.codec.specs.Contents.{filled_dec, or_start}
 use Rattle.codec.specs.Views.{fit_of}
 use Rattle.layout.specs.Words.{seconds_in, time_read, serial_read, bits_read, single_read}

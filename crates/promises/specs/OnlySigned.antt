@@ -13,7 +13,7 @@ use Rattle.std.proofs.Math.Option.{none}
 use Rattle.octets.specs.Octets.{Octets}
 use Rattle.octets.specs.OctetsLaws.{octets_drop}
 use Rattle.octets.specs.LentLaws.{part_length}
-use Rattle.codec.specs.CodecLaws.{element_injective}
+use Rattle.codec.proofs.CodecLaws.{element_injective}
 use Rattle.layout.specs.Reading.{Signed, Basic, basic}
 use Rattle.layout.specs.Format.{response_data}
 use Rattle.layout.specs.Limits.{BasicOk}

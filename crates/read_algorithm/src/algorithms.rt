@@ -1,6 +1,6 @@
 // Algorithm identifiers.
 ghost use Rattle.std.specs.Prelude.{◌≡◌};
-ghost use Rattle.codec.specs.Maybe.{maybe};
+ghost use Rattle.codec.proofs.Maybe.{maybe};
 ghost use Rattle.codec.specs.Views.{step_of, fit_of};
 ghost use Rattle.layout.specs.Kinds.{free};
 ghost use Rattle.layout.specs.Format.{algorithm_body, algorithm_identifier};

@@ -11,12 +11,13 @@ use Rattle.octets.specs.OctetsLaws.{octets_take, octets_drop}
 use Rattle.octets.specs.LentLaws.{Known, known_octets, rest_is, part_is, part_length}
 use Rattle.element.specs.Header.{header_of}
 use Rattle.codec.specs.Codec.{Read, read, broke, got}
-use Rattle.codec.specs.CodecLaws.{got_size, whole_size, after_place}
+use Rattle.codec.proofs.CodecLaws.{got_size, whole_size, after_place}
 use Rattle.codec.specs.Tagged.{inner}
-use Rattle.codec.specs.Many.{many_dec, many}
+use Rattle.codec.specs.Many.{many_dec}
+use Rattle.codec.proofs.Many.{many}
 use Rattle.codec.specs.Sequence.{field_dec}
 use Rattle.codec.specs.Views.{fit_of}
-use Rattle.codec.specs.ViewLaws.{fit_fits, fit_breaks}
+use Rattle.codec.proofs.ViewLaws.{fit_fits, fit_breaks}
 use Rattle.codec.specs.declared.Fit.{Fit}
 use Rattle.codec.specs.declared.Fit.TheVariants as fit
 use Rattle.layout.specs.Reading.{Entry}

@@ -9,10 +9,10 @@ use mir.Syntax.{w64}
 use mir.Val.{Fits}
 use Rattle.octets.specs.LentLaws.{Known, known_octets, rest_is}
 use Rattle.codec.specs.Codec.{got}
-use Rattle.codec.specs.CodecLaws.{got_size, after_place}
+use Rattle.codec.proofs.CodecLaws.{got_size, after_place}
 use Rattle.codec.specs.Sequence.{field_dec}
 use Rattle.codec.specs.Views.{fit_of}
-use Rattle.codec.specs.ViewLaws.{fit_fits, fit_breaks}
+use Rattle.codec.proofs.ViewLaws.{fit_fits, fit_breaks}
 use Rattle.codec.specs.declared.Fit.{Fit}
 use Rattle.codec.specs.declared.Fit.TheVariants as fit
 use Rattle.layout.specs.Format.{algorithm_identifier, signature_bits}

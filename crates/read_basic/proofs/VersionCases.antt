@@ -14,13 +14,13 @@ use Rattle.octets.specs.Octets.{Octets}
 use Rattle.octets.specs.OctetsLaws.{octets_drop}
 use Rattle.octets.specs.LentLaws.{Known, known_octets, rest_is}
 use Rattle.codec.specs.Codec.{Read, read, broke, got}
-use Rattle.codec.specs.CodecLaws.{got_size}
+use Rattle.codec.proofs.CodecLaws.{got_size}
 use Rattle.codec.specs.Mapped.{mapped_dec}
 use Rattle.codec.specs.Outcome.{further, renamed}
 use Rattle.codec.specs.Starts.{starts_with}
 use Rattle.codec.specs.Option.{option_of, option_dec}
 use Rattle.codec.specs.Views.{step_of}
-use Rattle.codec.specs.ViewLaws.{step_taken, step_bad}
+use Rattle.codec.proofs.ViewLaws.{step_taken, step_bad}
 use Rattle.codec.specs.declared.Step.{Step}
 use Rattle.codec.specs.declared.Step.TheVariants.{Taken, Bad}
 use Rattle.layout.specs.Names.{SignedFields, signed_from}

@@ -11,10 +11,10 @@ use Rattle.octets.specs.Octets.{Octets}
 use Rattle.octets.specs.OctetsLaws.{octets_drop}
 use Rattle.octets.specs.LentLaws.{Known, known_octets, rest_is}
 use Rattle.codec.specs.Codec.{Read, read, broke, got, Whole, Element}
-use Rattle.codec.specs.CodecLaws.{got_size, whole_size}
+use Rattle.codec.proofs.CodecLaws.{got_size, whole_size}
 use Rattle.codec.specs.Sequence.{field_dec}
 use Rattle.codec.specs.Views.{step_of}
-use Rattle.codec.specs.ViewLaws.{step_taken, step_bad}
+use Rattle.codec.proofs.ViewLaws.{step_taken, step_bad}
 use Rattle.codec.specs.declared.Step.{Step}
 use Rattle.codec.specs.declared.Step.TheVariants.{Taken, Bad}
 

@@ -7,7 +7,7 @@
 use Rattle.std.specs.Prelude.{ℕ, ◌+◌, ◌-◌, cond, List, length}
 use Rattle.std.proofs.Math.Option.{Option}
 use Rattle.codec.specs.Codec.{Read, read, broke, Whole}
-use Rattle.codec.specs.Sequence.{field}
+use Rattle.codec.proofs.Sequence.{field}
 use Rattle.codec.specs.Option.{option_enc}
 use Rattle.codec.specs.Starts.{starts_with}
 use Rattle.codec.specs.Many.{forms}

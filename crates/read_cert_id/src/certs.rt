@@ -1,6 +1,6 @@
 // CertIDs.
 ghost use Rattle.std.specs.Prelude.{◌≡◌};
-ghost use Rattle.codec.specs.Sequence.{field, only};
+ghost use Rattle.codec.proofs.Sequence.{field, only};
 ghost use Rattle.codec.specs.Views.{step_of, fit_of};
 ghost use Rattle.layout.specs.Kinds.{hash, serial};
 ghost use Rattle.layout.specs.Format.{cert_body, cert_id};

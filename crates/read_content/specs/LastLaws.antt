@@ -9,8 +9,10 @@ use Rattle.content.specs.Oid.{oid_ok}
 use Rattle.element.specs.Tag.{tag_ok}
 use Rattle.element.specs.HeaderLaws.{header_inside}
 use Rattle.codec.specs.Codec.{got, Element}
-use Rattle.codec.specs.Tagged.{tagged_dec, own, primitive}
-use Rattle.codec.specs.Contents.{octets_read, octets_content, filled_dec}
+use Rattle.codec.specs.Tagged.{tagged_dec, own}
+use Rattle.codec.proofs.Tagged.{primitive}
+use Rattle.codec.specs.Contents.{octets_read, filled_dec}
+use Rattle.codec.proofs.Contents.{octets_content}
 use Rattle.layout.specs.Words.{between, bits_read}
 use Rattle.layout.specs.Kinds.{string, oid, hash}
 use Rattle.layout.specs.Format.{signature_bits}

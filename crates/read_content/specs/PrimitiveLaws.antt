@@ -11,7 +11,8 @@ use Rattle.element.specs.Header.{header_of}
 use Rattle.element.specs.declared.Header.{Header}
 use Rattle.element.specs.declared.Header.TheVariants.{Found, Refused}
 use Rattle.codec.specs.Codec.{read, got, bad}
-use Rattle.codec.specs.Outcome.{attach, attach_got, tested_got, bad_got, got_bad, broke_read}
+use Rattle.codec.specs.Outcome.{attach}
+use Rattle.codec.proofs.Outcome.{attach_got, tested_got, bad_got, got_bad, broke_read}
 use Rattle.codec.specs.Tagged.{own, tagged_of, tagged_dec}
 use Rattle.codec.specs.Contents.{or_start, filled_dec}
 

@@ -20,7 +20,7 @@ use Rattle.codec.specs.Mapped.{mapped_dec}
 use Rattle.codec.specs.Each.{each_dec}
 use Rattle.codec.specs.Sequence.{end_dec, field_dec, only_dec}
 use Rattle.codec.specs.Views.{fit_of}
-use Rattle.codec.specs.ViewLaws.{fit_only_bad, fit_only_left}
+use Rattle.codec.proofs.ViewLaws.{fit_only_bad, fit_only_left}
 use Rattle.codec.specs.declared.Fit.TheVariants.{Breaks}
 use Rattle.layout.specs.Reading.{Extension}
 use Rattle.layout.specs.Format.{extension_list, extensions}

@@ -14,12 +14,12 @@ use Rattle.octets.specs.OctetsLaws.{octets_drop}
 use Rattle.octets.specs.Same.{same_of}
 use Rattle.octets.specs.LentLaws.{Known, rest_is, known_octets, part_is}
 use Rattle.codec.specs.Codec.{Read, read}
-use Rattle.codec.specs.CodecLaws.{form_some}
+use Rattle.codec.proofs.CodecLaws.{form_some}
 use Rattle.codec.specs.Keys.{new_to}
 use Rattle.codec.specs.Starts.{starts_with}
 use Rattle.codec.specs.Many.{All, forms}
 use Rattle.codec.specs.Views.{fit_of}
-use Rattle.codec.specs.ViewLaws.{fit_fits}
+use Rattle.codec.proofs.ViewLaws.{fit_fits}
 use Rattle.codec.specs.declared.Fit.{Fit}
 use Rattle.codec.specs.declared.Fit.TheVariants as fit
 use Rattle.layout.specs.Reading.{Extension}

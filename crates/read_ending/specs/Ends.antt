@@ -4,7 +4,7 @@
 use Rattle.std.specs.Prelude.{ℕ, List}
 use Rattle.std.proofs.Math.Option.{Option}
 use Rattle.codec.specs.Codec.{Whole}
-use Rattle.codec.specs.Option.{option}
+use Rattle.codec.proofs.Option.{option}
 use Rattle.layout.specs.Reading.{Extension}
 use Rattle.layout.specs.Kinds.{optional}
 use Rattle.layout.specs.Format.{extensions, extensions_start, extensions_apart, next_update, next_starts}

@@ -11,7 +11,7 @@ use Rattle.element.specs.Header.{header_of}
 use Rattle.element.specs.declared.Header.{Header}
 use Rattle.element.specs.declared.Header.TheVariants.{Found, Refused}
 use Rattle.codec.specs.Codec.{Read, read, broke, Got, got}
-use Rattle.codec.specs.Outcome.{bad_got, tested_got, attach_got, on_got_read, further_read}
+use Rattle.codec.proofs.Outcome.{bad_got, tested_got, attach_got, on_got_read, further_read}
 use Rattle.codec.specs.Tagged.{tagged_of, tagged_dec}
 use Rattle.codec.specs.Mapped.{mapped_dec}
 use Rattle.codec.specs.Sequence.{end_dec, field_dec, only_dec}

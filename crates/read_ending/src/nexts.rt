@@ -1,6 +1,6 @@
 // nextUpdate.
 ghost use Rattle.std.specs.Prelude.{◌≡◌};
-ghost use Rattle.codec.specs.Sequence.{only};
+ghost use Rattle.codec.proofs.Sequence.{only};
 ghost use Rattle.codec.specs.Views.{step_of, fit_of};
 ghost use Rattle.layout.specs.Kinds.{time};
 ghost use Rattle.layout.specs.Format.{next_update};

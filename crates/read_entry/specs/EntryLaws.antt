@@ -14,8 +14,8 @@ use Rattle.element.specs.Header.{header_of}
 use Rattle.element.specs.HeaderLaws.{header_inside}
 use Rattle.element.specs.declared.Header.TheVariants.{Found}
 use Rattle.codec.specs.Codec.{read, got}
-use Rattle.codec.specs.CodecLaws.{got_size}
-use Rattle.codec.specs.Outcome.{renamed_read}
+use Rattle.codec.proofs.CodecLaws.{got_size}
+use Rattle.codec.proofs.Outcome.{renamed_read}
 use Rattle.codec.specs.Tagged.{inner}
 use Rattle.codec.specs.Mapped.{mapped_dec}
 use Rattle.codec.specs.Option.{option_enc}

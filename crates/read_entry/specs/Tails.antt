@@ -4,7 +4,7 @@
 use Rattle.std.specs.Prelude.{ℕ, List}
 use Rattle.std.proofs.Math.Option.{Option}
 use Rattle.codec.specs.Codec.{Whole}
-use Rattle.codec.specs.Sequence.{field}
+use Rattle.codec.proofs.Sequence.{field}
 use Rattle.layout.specs.Reading.{Status, Extension}
 use Rattle.layout.specs.Kinds.{time}
 use Rattle.layout.specs.Format.{cert_status}

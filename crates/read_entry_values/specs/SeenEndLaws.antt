@@ -6,7 +6,7 @@ use Rattle.std.proofs.Common.{arith, sym, ap, ◌∙◌, append_assoc, append-ni
 use Rattle.octets.specs.Octets.{Octets}
 use Rattle.element.specs.Form.{head_form, form_of}
 use Rattle.codec.specs.Codec.{got}
-use Rattle.codec.specs.CodecLaws.{got_size}
+use Rattle.codec.proofs.CodecLaws.{got_size}
 use Rattle.codec.specs.Option.{option_enc}
 use Rattle.layout.specs.Reading.{Entry}
 use Rattle.layout.specs.Kinds.{time}

@@ -17,7 +17,7 @@ use Rattle.calendar.specs.TimeLaws.{time_complete}
 use Rattle.calendar.specs.Plain.{plain_seconds}
 use Rattle.calendar.specs.PlainLaws.{plain_time}
 use Rattle.codec.specs.Option.{option_enc, OptionOk}
-use Rattle.codec.specs.PartLaws.{form_found, small_left, small_content}
+use Rattle.codec.proofs.PartLaws.{form_found, small_left, small_content}
 use Rattle.layout.specs.Reading.{Status, good, revoked, unknown, Extension, Entry}
 use Rattle.layout.specs.Kinds.{time, tag_30}
 use Rattle.layout.specs.Limits.{TimeOk, StatusOk, EntryOk}

@@ -16,8 +16,10 @@ use Rattle.element.specs.Header.{header_of}
 use Rattle.codec.specs.Codec.{Read, read, broke, got, Whole}
 use Rattle.codec.specs.Outcome.{further, renamed}
 use Rattle.codec.specs.Mapped.{mapped_dec}
-use Rattle.codec.specs.Sequence.{only, end_dec, only_dec}
-use Rattle.codec.specs.Branch.{branch_dec, branch_then, branch_else, branch_bad}
+use Rattle.codec.specs.Sequence.{end_dec, only_dec}
+use Rattle.codec.proofs.Sequence.{only}
+use Rattle.codec.specs.Branch.{branch_dec}
+use Rattle.codec.proofs.Branch.{branch_then, branch_else, branch_bad}
 use Rattle.codec.specs.Tagged.{inner, tagged_dec}
 use Rattle.layout.specs.Words.{status_ok}
 use Rattle.layout.specs.Kinds.{enumerated}

@@ -5,7 +5,7 @@
 use Rattle.std.specs.Prelude.{ℕ, ◌+◌, cond, List, eqb, length}
 use Rattle.octets.specs.Same.{same_of}
 use Rattle.codec.specs.Codec.{Read, read, broke, Whole}
-use Rattle.codec.specs.Sequence.{field, only}
+use Rattle.codec.proofs.Sequence.{field, only}
 use Rattle.layout.specs.Words.{anything}
 use Rattle.layout.specs.Kinds.{oid, string, sequence}
 use Rattle.layout.specs.Names.{Envelope, failure, success}

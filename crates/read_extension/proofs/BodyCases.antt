@@ -22,10 +22,11 @@ use Rattle.codec.specs.Outcome.{attach}
 use Rattle.codec.specs.Contents.{octets_read, or_start, filled_dec}
 use Rattle.codec.specs.Tagged.{own, tagged_of, tagged_dec}
 use Rattle.codec.specs.Keys.{new_to, new_test}
-use Rattle.codec.specs.Sequence.{field_dec, only}
+use Rattle.codec.specs.Sequence.{field_dec}
+use Rattle.codec.proofs.Sequence.{only}
 use Rattle.codec.specs.Starts.{starts_with}
 use Rattle.codec.specs.Views.{step_of, fit_of}
-use Rattle.codec.specs.ViewLaws.{fit_only_bad}
+use Rattle.codec.proofs.ViewLaws.{fit_only_bad}
 use Rattle.codec.specs.declared.Step.{Step}
 use Rattle.codec.specs.declared.Step.TheVariants.{Taken, Bad}
 use Rattle.codec.specs.declared.Fit.{Fit}

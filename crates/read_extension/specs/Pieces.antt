@@ -5,8 +5,8 @@
 use Rattle.std.specs.Prelude.{ℕ, List}
 use Rattle.std.proofs.Math.Option.{Option}
 use Rattle.codec.specs.Codec.{Whole}
-use Rattle.codec.specs.Sequence.{only}
-use Rattle.codec.specs.Option.{option}
+use Rattle.codec.proofs.Sequence.{only}
+use Rattle.codec.proofs.Option.{option}
 use Rattle.layout.specs.Words.{anything}
 use Rattle.layout.specs.Kinds.{string}
 use Rattle.layout.specs.Format.{critical, critical_starts, value_apart}

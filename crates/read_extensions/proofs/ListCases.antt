@@ -12,9 +12,10 @@ use mir.Val.{Fits}
 use Rattle.octets.specs.LentLaws.{rest_is}
 use Rattle.codec.specs.Codec.{got, bad}
 use Rattle.codec.specs.Many.{enough}
-use Rattle.codec.specs.Each.{each_dec, each_got, each_bad}
+use Rattle.codec.specs.Each.{each_dec}
+use Rattle.codec.proofs.Each.{each_got, each_bad}
 use Rattle.codec.specs.Views.{step_of, fit_of, later}
-use Rattle.codec.specs.ViewLaws.{step_taken, step_bad, fit_further, later_later}
+use Rattle.codec.proofs.ViewLaws.{step_taken, step_bad, fit_further, later_later}
 use Rattle.codec.specs.declared.Step.{Step}
 use Rattle.codec.specs.declared.Step.TheVariants.{Taken, Bad}
 use Rattle.codec.specs.declared.Fit.{Fit}

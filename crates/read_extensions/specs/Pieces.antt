@@ -3,7 +3,7 @@
 -- Assumes nothing.
 use Rattle.std.specs.Prelude.{ℕ, List}
 use Rattle.codec.specs.Codec.{Got, Whole, Element}
-use Rattle.codec.specs.Sequence.{only}
+use Rattle.codec.proofs.Sequence.{only}
 use Rattle.layout.specs.Kinds.{sequence}
 use Rattle.layout.specs.Reading.{Extension}
 use Rattle.layout.specs.Format.{extension_after, extension_list}

@@ -10,7 +10,7 @@ use Rattle.element.specs.HeaderLaws.{header_inside}
 use Rattle.element.specs.declared.Header.{Header}
 use Rattle.element.specs.declared.Header.TheVariants.{Found, Refused}
 use Rattle.codec.specs.Codec.{Read, read, got, Element}
-use Rattle.codec.specs.Outcome.{bad_got, attach_got, tested_got, renamed_read, further_read, on_got_read}
+use Rattle.codec.proofs.Outcome.{bad_got, attach_got, tested_got, renamed_read, further_read, on_got_read}
 use Rattle.codec.specs.Contents.{octets_read}
 use Rattle.codec.specs.Tagged.{own, inner, tagged_of, tagged_dec}
 use Rattle.codec.specs.Mapped.{mapped_dec}

@@ -12,7 +12,7 @@ use Rattle.octets.specs.OctetsLaws.{octets_take, octets_drop}
 use Rattle.octets.specs.LentLaws.{Known, known_octets, rest_is, part_is, part_length}
 use Rattle.element.specs.Header.{header_of}
 use Rattle.codec.specs.Codec.{Read, read, broke}
-use Rattle.codec.specs.CodecLaws.{got_size, whole_size}
+use Rattle.codec.proofs.CodecLaws.{got_size, whole_size}
 use Rattle.codec.specs.Outcome.{attach}
 use Rattle.codec.specs.Tagged.{inner, tagged_dec}
 use Rattle.codec.specs.Sequence.{field_dec}

@@ -14,7 +14,7 @@ use Rattle.octets.specs.LentLaws.{Known, known_octets, rest_is, part_is}
 use Rattle.element.specs.Header.{header_of}
 use Rattle.codec.specs.Codec.{Read, read, broke, got}
 use Rattle.codec.specs.Tagged.{inner, tagged_dec}
-use Rattle.codec.specs.CodecLaws.{whole_size}
+use Rattle.codec.proofs.CodecLaws.{whole_size}
 use Rattle.layout.specs.Reading.{Basic}
 use Rattle.layout.specs.Names.{Envelope, failure, success}
 use Rattle.layout.specs.Format.{basic_body, basic_response, envelope}

@@ -10,7 +10,8 @@ use mathlib.Core.List.{List}
 use lib.Dec.{eqb}
 use lib.ListN.{length, get_or}
 use borrow.Author.Tests.{le-leb, lt-leb, eq-eqb, ne_eqb}
-use Rattle.codec.specs.Starts.{starts_with, starts_none, starts_first}
+use Rattle.codec.specs.Starts.{starts_with}
+use Rattle.codec.proofs.Starts.{starts_none, starts_first}
 use Rattle.codec.specs.declared.Step.{Step}
 use Rattle.codec.specs.declared.Step.TheVariants.{Taken, Bad}
 use Rattle.codec.specs.declared.Fit.{Fit}

@@ -20,7 +20,7 @@ use Rattle.codec.specs.Starts.{starts_with, Starts}
 use Rattle.codec.specs.Option.{option_dec}
 use Rattle.codec.specs.Choice.{choice_dec}
 use Rattle.codec.specs.Views.{step_of, fit_of}
-use Rattle.codec.specs.ViewLaws.{step_taken, fit_mapped}
+use Rattle.codec.proofs.ViewLaws.{step_taken, fit_mapped}
 use Rattle.codec.specs.declared.Step.{Step}
 use Rattle.codec.specs.declared.Step.TheVariants.{Taken, Bad}
 use Rattle.codec.specs.declared.Fit.{Fit}

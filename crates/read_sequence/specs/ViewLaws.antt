@@ -21,13 +21,15 @@ use Rattle.codec.specs.Codec.{Read, read, broke, Got, got, bad, Whole, Element}
 use Rattle.codec.specs.Outcome.{further, on_got, attach}
 use Rattle.codec.specs.Tagged.{inner, tagged_dec}
 use Rattle.codec.specs.Mapped.{called_dec}
-use Rattle.codec.specs.Sequence.{end, end_dec, field_dec, only_dec}
-use Rattle.codec.specs.Maybe.{maybe_dec, maybe_none, maybe_some}
+use Rattle.codec.specs.Sequence.{end_dec, field_dec, only_dec}
+use Rattle.codec.proofs.Sequence.{end}
+use Rattle.codec.specs.Maybe.{maybe_dec}
+use Rattle.codec.proofs.Maybe.{maybe_none, maybe_some}
 use Rattle.codec.specs.Starts.{starts_with, Starts}
 use Rattle.codec.specs.Option.{option_of, option_dec}
 use Rattle.codec.specs.Choice.{choice_of, choice_dec}
 use Rattle.codec.specs.Views.{step_of, fit_of, later}
-use Rattle.codec.specs.ViewLaws.{step_taken, step_bad, fit_further, fit_renamed, step_called, fit_mapped, fit_field_bad, fit_field, fit_only_bad, fit_only, fit_only_left}
+use Rattle.codec.proofs.ViewLaws.{step_taken, step_bad, fit_further, fit_renamed, step_called, fit_mapped, fit_field_bad, fit_field, fit_only_bad, fit_only, fit_only_left}
 use Rattle.codec.specs.declared.Step.TheVariants.{Taken, Bad}
 use Rattle.codec.specs.declared.Fit.TheVariants.{Fits, Breaks}
 use Rattle.layout.specs.Kinds.{optional}

@@ -7,7 +7,7 @@ use mathlib.Core.List.{List}
 use lib.ListN.{length}
 use Rattle.codec.specs.Sequence.{only_dec}
 use Rattle.codec.specs.Views.{step_of, fit_of}
-use Rattle.codec.specs.ViewLaws.{fit_only_bad}
+use Rattle.codec.proofs.ViewLaws.{fit_only_bad}
 use Rattle.codec.specs.declared.Step.TheVariants.{Taken}
 use Rattle.codec.specs.declared.Fit.{Fit}
 use Rattle.codec.specs.declared.Fit.TheVariants as fit

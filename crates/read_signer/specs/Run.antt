@@ -3,7 +3,7 @@
 -- Assumes nothing.
 use Rattle.std.specs.Prelude.{List}
 use Rattle.codec.specs.Codec.{Whole}
-use Rattle.codec.specs.Many.{many}
+use Rattle.codec.proofs.Many.{many}
 use Rattle.codec.specs.Tree.{Tree}
 use Rattle.layout.specs.Kinds.{free_sequence}
 

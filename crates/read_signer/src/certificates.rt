@@ -1,7 +1,7 @@
 // Certificates.
 ghost use Rattle.std.specs.Prelude.{◌≡◌};
-ghost use Rattle.codec.specs.Sequence.{only};
-ghost use Rattle.codec.specs.Many.{many};
+ghost use Rattle.codec.proofs.Sequence.{only};
+ghost use Rattle.codec.proofs.Many.{many};
 ghost use Rattle.codec.specs.Views.{step_of, fit_of};
 ghost use Rattle.layout.specs.Kinds.{sequence, free_sequence};
 ghost use Rattle.layout.specs.Format.{certificates};

@@ -1,6 +1,6 @@
 // Responder ids.
 ghost use Rattle.std.specs.Prelude.{◌≡◌};
-ghost use Rattle.codec.specs.Sequence.{only};
+ghost use Rattle.codec.proofs.Sequence.{only};
 ghost use Rattle.codec.specs.Views.{step_of, fit_of};
 ghost use Rattle.layout.specs.Words.{between};
 ghost use Rattle.layout.specs.Kinds.{string, free_sequence};

@@ -1,6 +1,6 @@
 // Good, revoked, unknown.
 ghost use Rattle.std.specs.Prelude.{◌≡◌};
-ghost use Rattle.codec.specs.Sequence.{only};
+ghost use Rattle.codec.proofs.Sequence.{only};
 ghost use Rattle.codec.specs.Views.{step_of, fit_of};
 ghost use Rattle.layout.specs.Words.{reason_ok};
 ghost use Rattle.layout.specs.Kinds.{enumerated, optional};

@@ -1,6 +1,6 @@
 // version [0]: A0 around an INTEGER, which can only be 0.
 ghost use Rattle.std.specs.Prelude.{◌≡◌};
-ghost use Rattle.codec.specs.Sequence.{only};
+ghost use Rattle.codec.proofs.Sequence.{only};
 ghost use Rattle.codec.specs.Views.{step_of, fit_of};
 ghost use Rattle.layout.specs.Format.{v1, version};
 

@@ -6,7 +6,7 @@
 use Rattle.std.specs.Prelude.{ℕ, List}
 use Rattle.octets.specs.Number.{value_of}
 use Rattle.codec.specs.Codec.{Whole, Element}
-use Rattle.codec.specs.Sequence.{only}
+use Rattle.codec.proofs.Sequence.{only}
 use Rattle.layout.specs.Reading.{Algorithm, CertId}
 use Rattle.layout.specs.Kinds.{sequence}
 use Rattle.layout.specs.EntryFormat.{cert_id}

@@ -16,7 +16,8 @@ use Rattle.octets.specs.Octets.{Octets}
 use Rattle.octets.specs.OctetsLaws.{octets_from}
 use Rattle.content.specs.Serial.{serial_ok}
 use Rattle.codec.specs.Codec.{read}
-use Rattle.codec.specs.Many.{forms, All, many}
+use Rattle.codec.specs.Many.{forms, All}
+use Rattle.codec.proofs.Many.{many}
 use Rattle.layout.specs.Reading.{Entry, Basic, failed, basic}
 use Rattle.layout.specs.LimitsLaws.{entry_limits}
 use Rattle.layout.specs.PartLimitsLaws.{all_limits}

@@ -14,7 +14,7 @@ use Rattle.element.specs.Form.{head_size, form_of}
 use Rattle.element.specs.Length.{length_form}
 use Rattle.element.specs.Header.{header_of}
 use Rattle.element.specs.declared.Header.TheVariants.{Found}
-use Rattle.codec.specs.PartLaws.{form_found, form_content, small_content}
+use Rattle.codec.proofs.PartLaws.{form_found, form_content, small_content}
 use Rattle.codec.specs.Tree.{Tree, tree_enc}
 use Rattle.layout.specs.Reading.{Responder, by_name, by_key}
 use Rattle.layout.specs.Kinds.{free_sequence, tag_a1, tag_a2}

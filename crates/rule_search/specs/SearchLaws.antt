@@ -12,9 +12,10 @@ use Rattle.octets.specs.OctetsLaws.{octets_take, octets_drop}
 use Rattle.element.specs.HeaderLaws.{header_empty}
 use Rattle.content.specs.Serial.{serial_ok}
 use Rattle.codec.specs.Codec.{read, got}
-use Rattle.codec.specs.CodecLaws.{got_size}
-use Rattle.codec.specs.Outcome.{broke_read, renamed_read, on_got_read, further_read}
-use Rattle.codec.specs.Many.{many_dec, many, enough_read}
+use Rattle.codec.proofs.CodecLaws.{got_size}
+use Rattle.codec.proofs.Outcome.{broke_read, renamed_read, on_got_read, further_read}
+use Rattle.codec.specs.Many.{many_dec}
+use Rattle.codec.proofs.Many.{many, enough_read}
 use Rattle.codec.specs.Mapped.{mapped_dec}
 use Rattle.codec.specs.Tagged.{inner}
 use Rattle.layout.specs.Reading.{Entry}

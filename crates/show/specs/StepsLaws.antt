@@ -12,7 +12,7 @@ use Rattle.element.specs.Header.{header_of}
 use Rattle.element.specs.HeaderLaws.{header_inside}
 use Rattle.element.specs.declared.Header.{Header}
 use Rattle.element.specs.declared.Header.TheVariants.{Found, Refused}
-use Rattle.codec.specs.PartLaws.{form_found, small_left, small_right, small_content}
+use Rattle.codec.proofs.PartLaws.{form_found, small_left, small_right, small_content}
 use Rattle.codec.specs.Many.{forms}
 use Rattle.layout.specs.Reading.{Entry}
 use Rattle.layout.specs.Kinds.{tag_30}

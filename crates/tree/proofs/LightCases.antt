@@ -12,7 +12,8 @@ use Rattle.element.specs.Tag.{tag_of}
 use Rattle.element.specs.Header.{is_short}
 use Rattle.element.specs.ShortLaws.{short_found}
 use Rattle.element.specs.declared.Tag.{Tag}
-use Rattle.codec.specs.TreeRead.{tree, tree_dec, node_dec}
+use Rattle.codec.specs.TreeRead.{tree_dec, node_dec}
+use Rattle.codec.proofs.TreeRead.{tree}
 use Rattle.codec.specs.Views.{step_of, later}
 use Rattle.codec.specs.declared.Step.TheVariants.{Taken}
 use Rattle.tree.specs.TreeViewLaws.{fit_all, turn_sum, turn_inside, turn_less, turn_next}

@@ -19,13 +19,14 @@ use Rattle.element.specs.declared.Tag.{Tag}
 use Rattle.element.specs.declared.Header.{Header}
 use Rattle.element.specs.declared.Header.TheVariants.{Found, Refused}
 use Rattle.codec.specs.Codec.{bad}
-use Rattle.codec.specs.Any.{all}
+use Rattle.codec.proofs.Any.{all}
 use Rattle.codec.specs.Tree.{constructed}
-use Rattle.codec.specs.TreeRead.{tree, tree_dec, node_dec}
+use Rattle.codec.specs.TreeRead.{tree_dec, node_dec}
+use Rattle.codec.proofs.TreeRead.{tree}
 use Rattle.codec.specs.TreeTagged.{wanted_of, tree_tagged_dec}
 use Rattle.codec.specs.Many.{all_dec}
 use Rattle.codec.specs.Views.{step_of, fit_of}
-use Rattle.codec.specs.ViewLaws.{fit_fits, fit_breaks}
+use Rattle.codec.proofs.ViewLaws.{fit_fits, fit_breaks}
 use Rattle.codec.specs.declared.Step.{Step}
 use Rattle.codec.specs.declared.Step.TheVariants.{Taken, Bad}
 use Rattle.codec.specs.declared.Fit.{Fit}

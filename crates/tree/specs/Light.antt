@@ -4,7 +4,7 @@
 use Rattle.std.specs.Prelude.{ℕ, ◌<◌, ◌≡◌, List}
 use Rattle.element.specs.declared.Header.{Header}
 use Rattle.element.specs.declared.Header.TheVariants.{Found, Refused}
-use Rattle.codec.specs.TreeRead.{tree}
+use Rattle.codec.proofs.TreeRead.{tree}
 use Rattle.codec.specs.Views.{step_of}
 use Rattle.codec.specs.declared.Step.{Step}
 use Rattle.codec.specs.declared.Step.TheVariants.{Taken, Bad}

@@ -8,9 +8,9 @@ use Rattle.std.proofs.Math.Option.{none}
 use Rattle.std.specs.Int.{w64}
 use Rattle.std.proofs.Common.{Fits}
 use Rattle.codec.specs.Codec.{Element}
-use Rattle.codec.specs.Any.{all}
+use Rattle.codec.proofs.Any.{all}
 use Rattle.codec.specs.Views.{step_of, fit_of, later}
-use Rattle.codec.specs.TurnLaws as turns
+use Rattle.codec.proofs.TurnLaws as turns
 use Rattle.codec.specs.declared.Step.{Step}
 use Rattle.codec.specs.declared.Step.TheVariants.{Taken, Bad}
 use Rattle.codec.specs.declared.Fit.{Fit}

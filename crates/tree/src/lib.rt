@@ -8,9 +8,9 @@ mod heads; // short headers
 
 ghost use Rattle.std.specs.Prelude.{◌≡◌};
 ghost use Rattle.element.specs.Header.{header_of};
-ghost use Rattle.codec.specs.Any.{all};
-ghost use Rattle.codec.specs.TreeRead.{tree};
-ghost use Rattle.codec.specs.TreeTagged.{tree_tagged};
+ghost use Rattle.codec.proofs.Any.{all};
+ghost use Rattle.codec.proofs.TreeRead.{tree};
+ghost use Rattle.codec.proofs.TreeTagged.{tree_tagged};
 ghost use Rattle.codec.specs.Views.{step_of, fit_of};
 ghost use Rattle.tree.specs.Light.{unwanted_of};
 

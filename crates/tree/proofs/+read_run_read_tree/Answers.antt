@@ -4,7 +4,7 @@ use native.Mathlib.Omega.{arith}
 use borrow.Author.Rules.{rules}
 use mathlib.Core.Option.{none}
 use Rattle.codec.specs.Tree.{Tree}
-use Rattle.codec.specs.TurnLaws.{fits, turn_start, turn_end, turn_bad}
+use Rattle.codec.proofs.TurnLaws.{fits, turn_start, turn_end, turn_bad}
 use Rattle.tree.specs.TreeViewLaws.{turn_place, turn_inside, turn_sum, turn_less, turn_next}
 use Rattle.tree.proofs.LightCases.{over_sum, over_inside, over_less, over_next}
 use Rattle.tree.proofs.TreeCases.{too_deep, run_falls, tree_falls, found_end, found_sum, refused, primitive, run_fits, run_breaks, run_place}

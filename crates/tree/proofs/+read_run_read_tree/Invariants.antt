@@ -3,8 +3,8 @@
 use Rattle.std.proofs.Common.{length, ◌-◌, ◌+◌, ◌*◌, ◌≤◌}
 use mathlib.Core.Option.{none}
 use Rattle.codec.specs.Tree.{Tree}
-use Rattle.codec.specs.TreeRead.{tree}
-use Rattle.codec.specs.TurnLaws.{fits, Turns}
+use Rattle.codec.proofs.TreeRead.{tree}
+use Rattle.codec.proofs.TurnLaws.{fits, Turns}
 use Rattle.tree.proofs.+read_run_read_tree.Given as goal
 
 abbrev pub decreases-read_run : goal.decreases-read_run

@@ -1,7 +1,7 @@
 -- `read_algorithm::algorithms::algorithm_body` meets its contract, by the OID and what follows it.
 -- Assumes nothing.
 use borrow.Author.Rules.{rules}
-use Rattle.codec.specs.Maybe.{maybe}
+use Rattle.codec.proofs.Maybe.{maybe}
 use Rattle.layout.specs.Kinds.{oid, free}
 use Rattle.layout.specs.Format.{algorithm_body}
 use Rattle.read_content.specs.LastLaws.{last_oid}

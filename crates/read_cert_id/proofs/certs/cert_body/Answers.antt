@@ -1,7 +1,7 @@
 -- `read_cert_id::certs::cert_body` meets its contract, by the algorithm and what follows it.
 -- Assumes nothing.
 use borrow.Author.Rules.{rules}
-use Rattle.codec.specs.Sequence.{field, only}
+use Rattle.codec.proofs.Sequence.{field, only}
 use Rattle.layout.specs.Kinds.{hash, serial}
 use Rattle.layout.specs.Format.{algorithm_identifier, cert_body}
 use Rattle.read_sequence.specs.CaseLaws.{field_wrong, field_end, field_after, named}

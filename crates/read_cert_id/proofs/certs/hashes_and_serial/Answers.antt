@@ -1,7 +1,7 @@
 -- `read_cert_id::certs::hashes_and_serial` meets its contract, by the hash and what follows it.
 -- Assumes nothing.
 use borrow.Author.Rules.{rules}
-use Rattle.codec.specs.Sequence.{field, only}
+use Rattle.codec.proofs.Sequence.{field, only}
 use Rattle.layout.specs.Kinds.{hash, serial}
 use Rattle.read_content.specs.LastLaws.{last_hash}
 use Rattle.read_sequence.specs.CaseLaws.{string_sum, string_end, spot_wrong, spot_after_lem}

@@ -1,7 +1,7 @@
 -- `read_ending::nexts::judge_next` meets its contract, by the header and the content.
 -- Assumes nothing.
 use borrow.Author.Rules.{rules}
-use Rattle.codec.specs.Sequence.{only}
+use Rattle.codec.proofs.Sequence.{only}
 use Rattle.layout.specs.Kinds.{time}
 use Rattle.layout.specs.Format.{next_update}
 use Rattle.read_sequence.specs.CaseLaws.{tagged_wrong, tagged_sum, tagged_end, tagged_closed}

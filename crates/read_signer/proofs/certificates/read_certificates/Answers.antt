@@ -5,7 +5,7 @@ use Rattle.read_signer.specs.Run.{certificate_run}
 use Rattle.read_sequence.specs.CaseLaws.{tagged_wrong, tagged_sum, tagged_end, tagged_closed}
 use Rattle.layout.specs.Format.{certificates}
 use Rattle.layout.specs.Kinds.{sequence}
-use Rattle.codec.specs.Sequence.{only}
+use Rattle.codec.proofs.Sequence.{only}
 use Rattle.read_signer.proofs.certificates.read_certificates.Goals as goal
 
 pub expect-spot-requires : goal.expect-spot-requires

@@ -5,7 +5,7 @@ use Rattle.read_sequence.specs.CaseLaws.{tagged_wrong, tagged_sum, tagged_end, t
 use Rattle.layout.specs.Format.{key_id}
 use Rattle.layout.specs.Kinds.{string}
 use Rattle.layout.specs.Words.{between}
-use Rattle.codec.specs.Sequence.{only}
+use Rattle.codec.proofs.Sequence.{only}
 use Rattle.read_signer.proofs.responders.read_key.Goals as goal
 
 pub expect-spot-requires : goal.expect-spot-requires

@@ -1,7 +1,7 @@
 -- `read_status::statuses::read_reason` meets its contract, by the header and the content.
 -- Assumes nothing.
 use borrow.Author.Rules.{rules}
-use Rattle.codec.specs.Sequence.{only}
+use Rattle.codec.proofs.Sequence.{only}
 use Rattle.layout.specs.Words.{reason_ok}
 use Rattle.layout.specs.Kinds.{enumerated}
 use Rattle.layout.specs.Format.{reason}

@@ -11,9 +11,10 @@ use mathlib.Core.List.{List, [], ◌∷◌}
 use Rattle.std.proofs.Math.ListN.{length, length-drop}
 use Rattle.octets.specs.Octets.{Octets}
 use Rattle.codec.specs.Codec.{read, broke, Got, got, bad, Whole, Element}
-use Rattle.codec.specs.CodecLaws.{form_some}
+use Rattle.codec.proofs.CodecLaws.{form_some}
 use Rattle.codec.specs.Outcome.{further, on_got}
-use Rattle.codec.specs.Many.{many_dec, all_dec, forms, All, many_got, many_bad, many_sound, many_complete, many_octets, many_within}
+use Rattle.codec.specs.Many.{many_dec, all_dec, forms, All}
+use Rattle.codec.proofs.Many.{many_got, many_bad, many_sound, many_complete, many_octets, many_within}
 
 module _ {A : Type 0} (e : Element A) where
   -- no more elements than octets

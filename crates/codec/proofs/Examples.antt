@@ -12,18 +12,27 @@ use Rattle.element.specs.Form.{form_of}
 use Rattle.element.specs.Header.{header_of, length_at, inside_of}
 use Rattle.codec.specs.Codec.{read, broke, got, bad, Whole, Element}
 use Rattle.codec.specs.Outcome.{Names}
-use Rattle.codec.specs.Contents.{octets_read, octets_content, mapped_read, mapped_content_to, filled_dec}
-use Rattle.codec.specs.Tagged.{tagged_dec, primitive}
+use Rattle.codec.specs.Contents.{octets_read, mapped_read, filled_dec}
+use Rattle.codec.proofs.Contents.{octets_content, mapped_content_to}
+use Rattle.codec.specs.Tagged.{tagged_dec}
+use Rattle.codec.proofs.Tagged.{primitive}
 use Rattle.codec.specs.Mapped.{mapped_dec}
-use Rattle.codec.specs.Sequence.{end_dec, field_dec, end, field, only_dec, only}
+use Rattle.codec.specs.Sequence.{end_dec, field_dec, only_dec}
+use Rattle.codec.proofs.Sequence.{end, field, only}
 use Rattle.codec.specs.Starts.{starts_with}
-use Rattle.codec.specs.Option.{option_of, option_dec, option}
-use Rattle.codec.specs.Maybe.{maybe_dec, maybe}
-use Rattle.codec.specs.Branch.{branch_of, branch_dec, branch}
-use Rattle.codec.specs.Many.{many_dec, many}
-use Rattle.codec.specs.Each.{each_dec, KeyedElement, each}
-use Rattle.codec.specs.Keys.{new_to, new_test, new_content, keyed_content, keyed_primitive}
-use Rattle.codec.specs.StartsLaws.{primitive_starts, end_apart}
+use Rattle.codec.specs.Option.{option_of, option_dec}
+use Rattle.codec.proofs.Option.{option}
+use Rattle.codec.specs.Maybe.{maybe_dec}
+use Rattle.codec.proofs.Maybe.{maybe}
+use Rattle.codec.specs.Branch.{branch_of, branch_dec}
+use Rattle.codec.proofs.Branch.{branch}
+use Rattle.codec.specs.Many.{many_dec}
+use Rattle.codec.proofs.Many.{many}
+use Rattle.codec.specs.Each.{each_dec, KeyedElement}
+use Rattle.codec.proofs.Each.{each}
+use Rattle.codec.specs.Keys.{new_to, new_test}
+use Rattle.codec.proofs.Keys.{new_content, keyed_content, keyed_primitive}
+use Rattle.codec.proofs.StartsLaws.{primitive_starts, end_apart}
 
 -- any octets
 abbrev anything : List ℕ → Bool

@@ -8,12 +8,14 @@ use Rattle.std.proofs.Math.Option.{Option, none, some}
 use Rattle.element.specs.Tag.{tag_ok}
 use Rattle.element.specs.Form.{form_of}
 use Rattle.codec.specs.Codec.{Content, Whole, Element}
-use Rattle.codec.specs.CodecLaws.{form_some}
-use Rattle.codec.specs.Tagged.{tagged, primitive}
-use Rattle.codec.specs.Sequence.{end, field, only}
-use Rattle.codec.specs.Starts.{starts_with, Starts, Other, Apart, other_append}
-use Rattle.codec.specs.Option.{OptionOk, option_enc, option}
-use Rattle.codec.specs.Choice.{choice}
+use Rattle.codec.proofs.CodecLaws.{form_some}
+use Rattle.codec.proofs.Tagged.{tagged, primitive}
+use Rattle.codec.proofs.Sequence.{end, field, only}
+use Rattle.codec.specs.Starts.{starts_with, Starts, Other, Apart}
+use Rattle.codec.proofs.Starts.{other_append}
+use Rattle.codec.specs.Option.{OptionOk, option_enc}
+use Rattle.codec.proofs.Option.{option}
+use Rattle.codec.proofs.Choice.{choice}
 
 -- an element's octets begin with its tag
 pub form_starts : (t : ℕ) (c : List ℕ) → starts_with t (form_of t c) ≡ true

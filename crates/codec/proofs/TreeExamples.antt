@@ -8,8 +8,10 @@ use Rattle.element.specs.Header.{header_of, length_at, inside_of}
 use Rattle.codec.specs.Codec.{got, bad}
 use Rattle.codec.specs.Many.{many_dec, all_dec}
 use Rattle.codec.specs.Tree.{Tree, prim, node, stop, more, depth, tree_enc}
-use Rattle.codec.specs.TreeRead.{node_dec, tree_dec, tree}
-use Rattle.codec.specs.TreeTagged.{tree_tagged_dec, tree_tagged}
+use Rattle.codec.specs.TreeRead.{node_dec, tree_dec}
+use Rattle.codec.proofs.TreeRead.{tree}
+use Rattle.codec.specs.TreeTagged.{tree_tagged_dec}
+use Rattle.codec.proofs.TreeTagged.{tree_tagged}
 
 -- a sequence of a primitive element and an empty sequence
 abbrev small : Tree
