@@ -2,7 +2,7 @@
 -- full_algorithm, full_certificates; refused_certificates.
 -- Assumes nothing.
 use Rattle.std.specs.Prelude.{◌≡◌, refl, [], ◌∷◌}
-use Rattle.layout.specs.Opened.{opened}
+use Rattle.layout.proofs.Opened.{opened}
 use Rattle.read_response.specs.Parts.{span, parts_from, judged_as, judged_of}
 use Rattle.read_response.specs.Examples.{full}
 use Rattle.show.specs.Parts.{empty_span, shown_parts}

@@ -13,7 +13,7 @@ use Rattle.element.specs.Form.{head_form, head_size, form_of}
 use Rattle.element.specs.FormLaws.{head_length}
 use Rattle.element.specs.HeaderLaws.{header_empty}
 use Rattle.codec.proofs.PartLaws.{form_found, small_content}
-use Rattle.layout.specs.Kinds.{tag_30, tag_a0}
+use Rattle.layout.proofs.ElementKinds.{tag_30, tag_a0}
 use Rattle.read_response.specs.Stands.{Stands, part_stands}
 use Rattle.read_response.specs.declared.Span.{Span}
 use Rattle.show.specs.Parts.{empty_span}

@@ -13,9 +13,10 @@ use Rattle.codec.specs.Many.{forms}
 use Rattle.codec.specs.Option.{option_enc}
 use Rattle.codec.specs.Tree.{Tree}
 use Rattle.layout.specs.Reading.{Basic, basic}
-use Rattle.layout.specs.Kinds.{free_sequence}
-use Rattle.layout.specs.Format.{algorithm_identifier, certificates}
-use Rattle.layout.specs.Read.{reads, reading}
+use Rattle.layout.proofs.ElementKinds.{free_sequence}
+use Rattle.layout.proofs.Format.{algorithm_identifier, certificates}
+use Rattle.layout.specs.Read.{reads}
+use Rattle.layout.proofs.Read.{reading}
 use Rattle.read_response.specs.Parts.{judged_of}
 use Rattle.read_response.specs.Stands.{Stands}
 use Rattle.read_response.specs.PartsLaws.{algorithm_stands, certificates_stand}

@@ -11,8 +11,9 @@ use Rattle.answer.specs.Card.{all_zero}
 use Rattle.answer.specs.Verdict.{refused_at, refused}
 use Rattle.answer.specs.declared.Place.TheVariants as place
 use Rattle.fields.specs.Field.{field_at, value_at, card_in}
-use Rattle.layout.specs.Opened.{opened}
-use Rattle.layout.specs.Read.{unfit, reading}
+use Rattle.layout.proofs.Opened.{opened}
+use Rattle.layout.specs.Read.{unfit}
+use Rattle.layout.proofs.Read.{reading}
 use Rattle.rules.specs.Examples.{checked, failure, desk_case}
 use Rattle.rules.specs.Examples as ruling
 use Rattle.slip.specs.Examples.{slip_computes}

@@ -12,7 +12,7 @@ use Rattle.codec.specs.Option.{OptionOk}
 use Rattle.codec.specs.Many.{All}
 use Rattle.layout.specs.Reading.{Status, good, revoked, unknown, Entry, Basic, failed, basic}
 use Rattle.layout.specs.Limits.{TimeOk, ReasonOk, StatusOk, EntryOk, FailureOk}
-use Rattle.layout.specs.Theorem.{sound}
+use Rattle.layout.proofs.Theorem.{sound}
 use Rattle.rule_matching.specs.Match.{is_for}
 use Rattle.answer.specs.declared.Card.{Card}
 use Rattle.answer.specs.declared.Verdict.TheVariants.{Refused}

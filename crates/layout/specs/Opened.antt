@@ -29,11 +29,6 @@ use Rattle.codec.specs.Keys.{new_to, new_test}
 use Rattle.codec.specs.Tree.{tree_enc}
 use Rattle.codec.specs.TreeRead.{node_dec, tree_dec}
 use Rattle.codec.specs.TreeTagged.{tree_tagged_dec}
-use Rattle.layout.specs.Words.{time_read, serial_read, between, bits_read, single_read, reason_ok, status_ok}
-use Rattle.layout.specs.Kinds.{free, free_sequence, time, serial, oid, hash}
-use Rattle.layout.specs.Format.{algorithm_body, algorithm_identifier, cert_body, cert_id, reason, good_status, unknown_status, revoked_body, revoked_status, cert_status, new_oid, critical, extension_body, extension_after, extension_list, extensions, next_update, single_body, single_response}
-use Rattle.layout.specs.Format.{name_id, key_id, responder_id, v1, version, responses, signed_fields, signed_body, response_data, signature_bits, certificates, basic_body, basic_response, response_bytes, envelope_body, envelope}
-use Rattle.layout.specs.Read.{der, reading}
 
 -- octets, elements, OIDs, serials and times
 unfoldable pub below : Unit {0}
@@ -44,17 +39,3 @@ below = tt
 unfoldable pub combined : Unit {0}
 unfolding octets_read fixed_read filled_dec tagged_dec mapped_dec called_dec end_dec field_dec only_dec starts_with option_of option_dec maybe_dec branch_of branch_dec choice_of choice_dec many_dec all_dec each_dec new_to new_test tree_enc node_dec tree_dec tree_tagged_dec
 combined = tt
-
--- contents and elements by their tags
-unfoldable pub contents : Unit {0}
-unfolding time_read serial_read between bits_read single_read reason_ok status_ok free free_sequence time serial oid hash
-contents = tt
-
--- the layout
-unfoldable pub page : Unit {0}
-unfolding algorithm_body algorithm_identifier cert_body cert_id reason good_status unknown_status revoked_body revoked_status cert_status new_oid critical extension_body extension_after extension_list extensions next_update single_body single_response name_id key_id responder_id v1 version responses signed_fields signed_body response_data signature_bits certificates basic_body basic_response response_bytes envelope_body envelope
-page = tt
-
-unfoldable pub opened : Unit {0}
-unfolding below combined contents page der reading
-opened = tt

@@ -3,21 +3,13 @@
 -- basic response judged.
 -- basic_type, der, Outcome, reading. The laws are in Theorem.
 -- Assumes nothing.
-use Rattle.std.specs.Prelude.{ℕ, ◌+◌, ◌-◌, cond, List, [], ◌∷◌, length}
-use Rattle.octets.specs.Same.{same_of}
+use Rattle.std.specs.Prelude.{ℕ, ◌+◌, List, [], ◌∷◌}
 use Rattle.codec.specs.Codec.{Read, read, broke}
-use Rattle.layout.specs.Reading.{Basic, Reading, failed, basic}
-use Rattle.layout.specs.Names.{Envelope, failure, success}
-use Rattle.layout.specs.Format.{basic_response, envelope}
+use Rattle.layout.specs.Reading.{Basic, Reading, basic}
 
 -- the basic type, 1.3.6.1.5.5.7.48.1.1
 abbrev pub basic_type : List ℕ
 basic_type = 0x2b ∷ 0x06 ∷ 0x01 ∷ 0x05 ∷ 0x05 ∷ 0x07 ∷ 0x30 ∷ 0x01 ∷ 0x01 ∷ []
-
--- the DER form of a reading
-unfoldable pub der : Reading → List ℕ
-der (failed n) = envelope.enc (failure n)
-der (basic b) = envelope.enc (success basic_type (basic_response.enc b))
 
 -- what a response is: one that reads as this, one of another type, or one that doesn't fit, with the
 -- place
@@ -30,13 +22,3 @@ pub data Outcome : Type 0 where
 abbrev pub inner_reading : ℕ → Read Basic → Outcome
 inner_reading at (read b) = reads (basic b)
 inner_reading at (broke p) = unfit (at + p)
-
--- by the envelope, whose last octets are the string's
-abbrev pub envelope_reading : List ℕ → Read Envelope → Outcome
-envelope_reading s (broke p) = unfit p
-envelope_reading s (read (failure n)) = reads (failed n)
-envelope_reading s (read (success t c)) =
-    cond (same_of t basic_type) (inner_reading (length s - length c) (basic_response.dec c)) other_type
-
-unfoldable pub reading : List ℕ → Outcome
-reading s = envelope_reading s (envelope.dec s)

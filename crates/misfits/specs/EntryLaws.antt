@@ -11,7 +11,7 @@ use Rattle.codec.specs.Sequence.{only_dec}
 use Rattle.codec.specs.Option.{option_dec}
 use Rattle.layout.specs.Words.{time_read, serial_read, single_read, between, anything, reason_ok}
 use Rattle.layout.specs.Names.{extension_of}
-use Rattle.layout.specs.Kinds as kinds
+use Rattle.layout.proofs.ElementKinds as kinds
 use Rattle.layout.specs.Format as format
 use Rattle.faults.specs.Description.{nothing, perhaps}
 use Rattle.faults.specs.ContentLaws.{octets_finds, fixed_finds}

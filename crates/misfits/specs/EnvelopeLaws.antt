@@ -13,8 +13,8 @@ use Rattle.codec.specs.Sequence.{end_dec, field_dec, only_dec}
 use Rattle.codec.specs.Branch.{branch_dec}
 use Rattle.layout.specs.Names.{Envelope, failure, success, EnvelopeParts, envelope_of, succeeds}
 use Rattle.layout.specs.Words.{single_read, anything, status_ok}
-use Rattle.layout.specs.Kinds as kinds
-use Rattle.layout.specs.Format as format
+use Rattle.layout.proofs.ElementKinds as kinds
+use Rattle.layout.proofs.Format as format
 use Rattle.faults.specs.Faults.{content_at, rest_at}
 use Rattle.faults.specs.PartLaws.{tagged_content, rest_of, field_of, only_of, Branched, branch_of_lem, filling, held}
 use Rattle.misfits.specs.Tests.{is_zero}

@@ -7,8 +7,8 @@ use Rattle.codec.specs.Contents.{fixed_read, filled_dec}
 use Rattle.codec.specs.Tagged.{own}
 use Rattle.layout.specs.Words.{bits_read, single_read, between, anything, status_ok}
 use Rattle.layout.specs.Names.{succeeds}
-use Rattle.layout.specs.Kinds as kinds
-use Rattle.layout.specs.Format as format
+use Rattle.layout.proofs.ElementKinds as kinds
+use Rattle.layout.proofs.Format as format
 use Rattle.faults.specs.Description.{leaf}
 use Rattle.faults.specs.Faults.{content_at}
 use Rattle.faults.specs.ContentLaws.{fixed_finds}

@@ -11,8 +11,9 @@ use Rattle.codec.specs.declared.Fit.{Fit}
 use Rattle.codec.specs.declared.Fit.TheVariants.{Fits, Breaks}
 use Rattle.layout.specs.Reading.{Basic}
 use Rattle.layout.specs.Names.{Envelope, failure, success}
-use Rattle.layout.specs.Format as format
-use Rattle.layout.specs.Read.{basic_type, Outcome, reads, other_type, unfit, inner_reading, envelope_reading, reading}
+use Rattle.layout.proofs.Format as format
+use Rattle.layout.specs.Read.{basic_type, Outcome, reads, other_type, unfit, inner_reading}
+use Rattle.layout.proofs.Read.{envelope_reading, reading}
 use Rattle.faults.specs.Faults.{shift, line_faults}
 use Rattle.faults.specs.Order.{Ascending, leftmost, Among, Least}
 use Rattle.faults.specs.OrderLaws.{ascend_from, ascend_later, first_least, least_first}

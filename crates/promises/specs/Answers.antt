@@ -7,7 +7,8 @@
 use Rattle.std.specs.Prelude.{ℕ, ◌+◌, ◌≤◌, ◌↔◌, ◌≡◌, true, List, [], ◌∷◌, length}
 use Rattle.std.proofs.Math.Option.{Option, some}
 use Rattle.layout.specs.Reading.{good, revoked, unknown, Entry, Basic, basic}
-use Rattle.layout.specs.Read.{reads, reading}
+use Rattle.layout.specs.Read.{reads}
+use Rattle.layout.proofs.Read.{reading}
 use Rattle.answer.specs.Card.{card_ok}
 use Rattle.answer.specs.declared.Reason.{Reason}
 use Rattle.answer.specs.declared.Verdict.TheVariants.{Good, Revoked, Unknown}

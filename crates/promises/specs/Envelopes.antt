@@ -12,10 +12,10 @@ use Rattle.element.specs.Form.{form_of}
 use Rattle.content.specs.Oid.{oid_ok}
 use Rattle.layout.specs.Reading.{Basic, basic}
 use Rattle.layout.specs.Names.{success}
-use Rattle.layout.specs.Format.{envelope}
+use Rattle.layout.proofs.Format.{envelope}
 use Rattle.layout.specs.Limits.{BasicOk, FailureOk}
-use Rattle.layout.specs.Read.{der}
-use Rattle.layout.specs.Opened.{opened}
+use Rattle.layout.proofs.Read.{der}
+use Rattle.layout.proofs.Opened.{opened}
 use Rattle.read_content.specs.ExpectLaws.{never}
 use Rattle.read_response.specs.Parts.{judged_of}
 use Rattle.read_response.specs.OutcomeLaws as kinds

@@ -13,10 +13,11 @@ use Rattle.octets.specs.Octets.{Octets}
 use Rattle.codec.specs.Option.{option_enc}
 use Rattle.codec.specs.Many.{forms}
 use Rattle.layout.specs.Reading.{Basic, basic}
-use Rattle.layout.specs.Kinds.{free_sequence}
-use Rattle.layout.specs.Format.{algorithm_identifier, single_response}
+use Rattle.layout.proofs.ElementKinds.{free_sequence}
+use Rattle.layout.proofs.Format.{algorithm_identifier, single_response}
 use Rattle.layout.specs.Limits.{FailureOk}
-use Rattle.layout.specs.Read.{reads, reading}
+use Rattle.layout.specs.Read.{reads}
+use Rattle.layout.proofs.Read.{reading}
 use Rattle.read_response.specs.Parts.{judged_of}
 use Rattle.read_response.specs.Refusals.{refusal_of}
 use Rattle.read_response.specs.declared.Parts.{Parts}

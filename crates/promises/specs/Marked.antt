@@ -4,7 +4,7 @@
 use Rattle.std.specs.Prelude.{ℕ, ◌≡◌, refl, Bool, true, false, ◌&&◌, List, [], ◌∷◌, replicate}
 use Rattle.octets.specs.SameLaws.{impossible}
 use Rattle.codec.specs.Many.{All}
-use Rattle.layout.specs.Opened.{opened}
+use Rattle.layout.proofs.Opened.{opened}
 use Rattle.answer.specs.Verdict.{refused}
 use Rattle.answer.specs.declared.Card.{Card}
 use Rattle.rule_matching.specs.CertForm.{card_form}

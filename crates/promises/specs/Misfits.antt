@@ -11,8 +11,9 @@ use Rattle.std.proofs.Common.{arith, inl, inr, ⊎_elim, ap}
 use Rattle.octets.specs.Octets.{Octets}
 use Rattle.element.specs.Header.{header_of}
 use Rattle.element.specs.declared.Header.TheVariants as header
-use Rattle.layout.specs.Read.{unfit, reading}
-use Rattle.layout.specs.Theorem.{place_within_lem}
+use Rattle.layout.specs.Read.{unfit}
+use Rattle.layout.proofs.Read.{reading}
+use Rattle.layout.proofs.Theorem.{place_within_lem}
 use Rattle.faults.specs.Head.{cut_off}
 use Rattle.faults.specs.HeadLaws.{head_place}
 use Rattle.faults.specs.Order.{Least}

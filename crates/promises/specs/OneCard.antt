@@ -11,7 +11,8 @@ use Rattle.octets.specs.Octets.{Octets}
 use Rattle.octets.specs.Number.{value_of}
 use Rattle.codec.specs.Tree.{prim}
 use Rattle.layout.specs.Reading.{CertId, Entry, Basic, basic}
-use Rattle.layout.specs.Read.{reads, reading}
+use Rattle.layout.specs.Read.{reads}
+use Rattle.layout.proofs.Read.{reading}
 use Rattle.layout.specs.Sha1.{sha1}
 use Rattle.answer.specs.Card.{serial_in}
 use Rattle.answer.specs.declared.Card.{Card}

@@ -9,9 +9,10 @@ use Rattle.std.proofs.Common.{arith, sym, ap, ◌∙◌}
 use Rattle.octets.specs.Octets.{Octets}
 use Rattle.layout.specs.Reading.{Reading, Basic, failed, basic}
 use Rattle.layout.specs.Limits.{Within, BasicOk, FailureOk}
-use Rattle.layout.specs.Read.{der, reads, reading}
-use Rattle.layout.specs.Theorem.{sound, complete, unique, der_octets}
-use Rattle.layout.specs.Opened.{opened}
+use Rattle.layout.specs.Read.{reads}
+use Rattle.layout.proofs.Read.{der, reading}
+use Rattle.layout.proofs.Theorem.{sound, complete, unique, der_octets}
+use Rattle.layout.proofs.Opened.{opened}
 use Rattle.read_response.specs.Parts.{judged_of, parts_in}
 use Rattle.read_response.specs.JudgedLaws.{judged_basic, basic_judged}
 use Rattle.read_response.specs.OutcomeLaws.{failed_judged}

@@ -15,12 +15,13 @@ use Rattle.octets.specs.OctetsLaws.{octets_drop}
 use Rattle.octets.specs.LentLaws.{part_length}
 use Rattle.codec.proofs.CodecLaws.{element_injective}
 use Rattle.layout.specs.Reading.{Signed, Basic, basic}
-use Rattle.layout.specs.Format.{response_data}
+use Rattle.layout.proofs.Format.{response_data}
 use Rattle.layout.specs.Limits.{BasicOk}
-use Rattle.layout.specs.LimitsLaws.{signed_limits}
-use Rattle.layout.specs.Read.{der, reads, reading}
-use Rattle.layout.specs.ReadLaws.{fits_64}
-use Rattle.layout.specs.Theorem.{sound, complete, der_octets}
+use Rattle.layout.proofs.LimitsLaws.{signed_limits}
+use Rattle.layout.specs.Read.{reads}
+use Rattle.layout.proofs.Read.{der, reading}
+use Rattle.layout.proofs.ReadLaws.{fits_64}
+use Rattle.layout.proofs.Theorem.{sound, complete, der_octets}
 use Rattle.answer.specs.Verdict.{refused}
 use Rattle.answer.specs.declared.Answer.{Answer}
 use Rattle.read_response.specs.Parts.{parts_in}

@@ -10,8 +10,9 @@ use Rattle.octets.specs.Octets.{Octets}
 use Rattle.codec.specs.Option.{option_enc}
 use Rattle.codec.specs.Many.{forms}
 use Rattle.layout.specs.Reading.{Basic, basic}
-use Rattle.layout.specs.Format.{algorithm_identifier, extensions, single_response, responder_id, response_data, certificates}
-use Rattle.layout.specs.Read.{reads, reading}
+use Rattle.layout.proofs.Format.{algorithm_identifier, extensions, single_response, responder_id, response_data, certificates}
+use Rattle.layout.specs.Read.{reads}
+use Rattle.layout.proofs.Read.{reading}
 use Rattle.read_response.specs.Parts.{parts_from, judged_of, parts_in}
 use Rattle.read_response.specs.Stands.{Stands}
 use Rattle.read_response.specs.PartsLaws as parts

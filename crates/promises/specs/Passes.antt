@@ -12,7 +12,8 @@ use Rattle.std.proofs.Math.Bool.{true, false}
 use Rattle.std.proofs.Math.Dec.{ltb}
 use Rattle.octets.specs.SameLaws.{impossible}
 use Rattle.layout.specs.Reading.{Basic, failed, basic}
-use Rattle.layout.specs.Read.{Outcome, reads, other_type, unfit, reading}
+use Rattle.layout.specs.Read.{Outcome, reads, other_type, unfit}
+use Rattle.layout.proofs.Read.{reading}
 use Rattle.answer.specs.Verdict.{refused}
 use Rattle.answer.specs.declared.Verdict.TheVariants.{Refused}
 use Rattle.answer.specs.declared.Answer.{Answer}

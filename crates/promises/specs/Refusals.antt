@@ -7,7 +7,8 @@
 use Rattle.std.specs.Prelude.{ℕ, ◌≤◌, ◌<◌, ◌⊎◌, ◌↔◌, ◌≡◌, refl, true, false, ◌&&◌, not, List, [], ◌∷◌, ltb, eqb, replicate}
 use Rattle.octets.specs.Octets.{Octets}
 use Rattle.layout.specs.Reading.{Entry, Basic, failed}
-use Rattle.layout.specs.Read.{reads, unfit, reading}
+use Rattle.layout.specs.Read.{reads, unfit}
+use Rattle.layout.proofs.Read.{reading}
 use Rattle.layout.specs.Limits.{FailureOk}
 use Rattle.answer.specs.Card.{empty_card}
 use Rattle.answer.specs.Verdict.{refused}

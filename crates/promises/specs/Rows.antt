@@ -11,7 +11,8 @@ use Rattle.std.proofs.Math.Option.{none, some}
 use Rattle.std.proofs.Math.Dec.{eqb}
 use borrow.Author.Tests.{ltb-true, lt-ltb, eqb-true, eq-eqb}
 use Rattle.layout.specs.Reading.{Entry, Basic, failed, basic}
-use Rattle.layout.specs.Read.{reads, other_type, unfit, reading}
+use Rattle.layout.specs.Read.{reads, other_type, unfit}
+use Rattle.layout.proofs.Read.{reading}
 use Rattle.rules.specs.declared.Question.{Question}
 use Rattle.rules.specs.Question.{in_range}
 use Rattle.rules.specs.Signer.{is_signer, in_response, in_entry, strange_in}

@@ -7,8 +7,9 @@ use Rattle.std.specs.Prelude.{ℕ, ◌≤◌, ◌≡◌, refl, List, [], ◌∷�
 use Rattle.octets.specs.Octets.{Octets}
 use Rattle.element.specs.Form.{form_of}
 use Rattle.layout.specs.Reading.{Basic, basic}
-use Rattle.layout.specs.Format.{signed_body, response_data, signature_bits}
-use Rattle.layout.specs.Read.{reads, reading}
+use Rattle.layout.proofs.Format.{signed_body, response_data, signature_bits}
+use Rattle.layout.specs.Read.{reads}
+use Rattle.layout.proofs.Read.{reading}
 use Rattle.read_response.specs.Parts.{judged_of, parts_in}
 use Rattle.read_response.specs.Stands.{Stands}
 use Rattle.read_response.specs.PartsLaws.{signed_stands, signature_stands}

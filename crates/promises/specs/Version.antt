@@ -15,13 +15,14 @@ use Rattle.element.specs.Form.{form_of}
 use Rattle.codec.specs.Codec.{read, got}
 use Rattle.codec.specs.Starts.{starts_with}
 use Rattle.layout.specs.Reading.{Signed, with_version, Basic, basic}
-use Rattle.layout.specs.Format.{version, signed_body, response_data}
+use Rattle.layout.proofs.Format.{version, signed_body, response_data}
 use Rattle.layout.specs.Limits.{SignedOk, BasicOk}
-use Rattle.layout.specs.LimitsLaws.{signed_limits}
-use Rattle.layout.specs.Read.{der, reads, unfit, reading}
-use Rattle.layout.specs.Theorem.{sound, complete}
-use Rattle.layout.specs.VersionLaws as laws
-use Rattle.layout.specs.OtherVersionLaws as others
+use Rattle.layout.proofs.LimitsLaws.{signed_limits}
+use Rattle.layout.specs.Read.{reads, unfit}
+use Rattle.layout.proofs.Read.{der, reading}
+use Rattle.layout.proofs.Theorem.{sound, complete}
+use Rattle.layout.proofs.VersionLaws as laws
+use Rattle.layout.proofs.OtherVersionLaws as others
 use Rattle.answer.specs.Verdict.{refused_at}
 use Rattle.answer.specs.declared.Place.TheVariants.{At}
 use Rattle.read_response.specs.Parts.{judged_of}

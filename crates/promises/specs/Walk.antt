@@ -9,8 +9,9 @@ use Rattle.std.specs.Borrow.{Bor}
 use Rattle.octets.specs.Octets.{Octets}
 use Rattle.codec.specs.Many.{forms}
 use Rattle.layout.specs.Reading.{Basic, basic}
-use Rattle.layout.specs.Format.{single_response}
-use Rattle.layout.specs.Read.{reads, reading}
+use Rattle.layout.proofs.Format.{single_response}
+use Rattle.layout.specs.Read.{reads}
+use Rattle.layout.proofs.Read.{reading}
 use Rattle.read_response.specs.Parts.{judged_of, parts_in}
 use Rattle.read_response.specs.Refusals.{refusal_of}
 use Rattle.show.specs.Shown.{octets_in, refused_entry}

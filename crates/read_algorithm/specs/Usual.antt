@@ -21,9 +21,9 @@ use Rattle.codec.specs.Views.{step_of}
 use Rattle.codec.specs.declared.Step.TheVariants.{Taken}
 use Rattle.layout.specs.Reading.{Algorithm}
 use Rattle.layout.specs.Limits.{AlgorithmOk}
-use Rattle.layout.specs.PartLimitsLaws.{algorithm_limits}
-use Rattle.layout.specs.Kinds as kinds
-use Rattle.layout.specs.EntryFormat.{algorithm_body, algorithm_identifier}
+use Rattle.layout.proofs.PartLimitsLaws.{algorithm_limits}
+use Rattle.layout.proofs.ElementKinds as kinds
+use Rattle.layout.proofs.EntryFormat.{algorithm_body, algorithm_identifier}
 use Rattle.layout.specs.Sha1.{sha1, null_head}
 
 -- 1.3.14.3.2.26, with NULL

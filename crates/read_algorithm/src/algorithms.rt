@@ -2,8 +2,8 @@
 ghost use Rattle.std.specs.Prelude.{◌≡◌};
 ghost use Rattle.codec.proofs.Maybe.{maybe};
 ghost use Rattle.codec.specs.Views.{step_of, fit_of};
-ghost use Rattle.layout.specs.Kinds.{free};
-ghost use Rattle.layout.specs.Format.{algorithm_body, algorithm_identifier};
+ghost use Rattle.layout.proofs.ElementKinds.{free};
+ghost use Rattle.layout.proofs.Format.{algorithm_body, algorithm_identifier};
 ghost use Rattle.read_algorithm.specs.Usual.{starts_usual};
 
 use codec::{Fit, Step};

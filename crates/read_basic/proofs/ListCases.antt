@@ -21,7 +21,7 @@ use Rattle.codec.proofs.ViewLaws.{fit_fits, fit_breaks}
 use Rattle.codec.specs.declared.Fit.{Fit}
 use Rattle.codec.specs.declared.Fit.TheVariants as fit
 use Rattle.layout.specs.Reading.{Entry}
-use Rattle.layout.specs.Format.{single_response, responses}
+use Rattle.layout.proofs.Format.{single_response, responses}
 use Rattle.read_content.specs.Spots.{expected}
 use Rattle.read_content.specs.ExpectLaws.{never, content_end, tagged_at_lem, tagged_wrong}
 use Rattle.read_content.specs.declared.Spot.{Spot}

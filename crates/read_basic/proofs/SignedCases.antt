@@ -6,8 +6,8 @@ use Prim.Native.Nat.{ℕ, ◌+◌}
 use native.Mathlib.Omega.{arith}
 use mathlib.Core.Path.{refl}
 use lib.ListN.{length-append}
-use Rattle.layout.specs.Kinds.{time}
-use Rattle.layout.specs.Format.{responder_id, signed_fields}
+use Rattle.layout.proofs.ElementKinds.{time}
+use Rattle.layout.proofs.Format.{responder_id, signed_fields}
 use Rattle.read_ending.specs.Ends.{extensions_on}
 use Rattle.read_basic.specs.Views.{responses_on, produced_on, listed_of, produced_of, inside_at, inside_fields}
 use Rattle.read_basic.specs.MoreLaws.{More}

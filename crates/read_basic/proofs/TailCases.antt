@@ -15,7 +15,7 @@ use Rattle.codec.specs.Views.{fit_of}
 use Rattle.codec.proofs.ViewLaws.{fit_fits, fit_breaks}
 use Rattle.codec.specs.declared.Fit.{Fit}
 use Rattle.codec.specs.declared.Fit.TheVariants as fit
-use Rattle.layout.specs.Format.{algorithm_identifier, signature_bits}
+use Rattle.layout.proofs.Format.{algorithm_identifier, signature_bits}
 use Rattle.read_content.specs.Spots.{spot_of}
 use Rattle.read_content.specs.LastLaws.{last_bits}
 use Rattle.read_content.specs.SpotLaws.{spot_reads, spot_wrong}

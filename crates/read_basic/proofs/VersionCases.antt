@@ -23,8 +23,9 @@ use Rattle.codec.specs.Views.{step_of}
 use Rattle.codec.proofs.ViewLaws.{step_taken, step_bad}
 use Rattle.codec.specs.declared.Step.{Step}
 use Rattle.codec.specs.declared.Step.TheVariants.{Taken, Bad}
-use Rattle.layout.specs.Names.{SignedFields, signed_from}
-use Rattle.layout.specs.Format.{version, signed_fields, signed_body}
+use Rattle.layout.specs.Names.{SignedFields}
+use Rattle.layout.proofs.Names.{signed_from}
+use Rattle.layout.proofs.Format.{version, signed_fields, signed_body}
 use Rattle.read_content.specs.ExpectLaws.{never}
 use Rattle.read_basic.specs.Views.{inside_at, inside_fields, version_step, inside_signed}
 use Rattle.read_basic.specs.MoreLaws.{place_inside}

@@ -16,9 +16,10 @@ use Rattle.codec.specs.Views.{step_of}
 use Rattle.codec.specs.declared.Step.{Step}
 use Rattle.codec.specs.declared.Step.TheVariants.{Taken}
 use Rattle.layout.specs.Reading.{Algorithm, Extension, Entry, Signed}
-use Rattle.layout.specs.Names.{there, SignedFields, fields_of}
-use Rattle.layout.specs.Kinds.{optional, time}
-use Rattle.layout.specs.Format.{single_response, responder_id, version, responses, algorithm_identifier, signature_bits, certificates, certificates_start}
+use Rattle.layout.specs.Names.{there, SignedFields}
+use Rattle.layout.proofs.Names.{fields_of}
+use Rattle.layout.proofs.ElementKinds.{optional, time}
+use Rattle.layout.proofs.Format.{single_response, responder_id, version, responses, algorithm_identifier, signature_bits, certificates, certificates_start}
 use Rattle.read_ending.specs.Ends.{extensions_on}
 use Rattle.read_content.specs.declared.Spot.{Spot}
 use Rattle.read_content.specs.declared.Spot.TheVariants as spot

@@ -1,6 +1,6 @@
 // The signed part's content: maybe the version, then responder id, producedAt, entries, maybe extensions.
 ghost use Rattle.std.specs.Prelude.{◌≡◌};
-ghost use Rattle.layout.specs.Format.{signed_fields, signed_body};
+ghost use Rattle.layout.proofs.Format.{signed_fields, signed_body};
 ghost use Rattle.read_basic.specs.Views.{responses_on, produced_on, version_step, listed_of, produced_of, inside_fields, inside_signed};
 
 use crate::Inside;

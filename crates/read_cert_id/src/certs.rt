@@ -2,8 +2,8 @@
 ghost use Rattle.std.specs.Prelude.{◌≡◌};
 ghost use Rattle.codec.proofs.Sequence.{field, only};
 ghost use Rattle.codec.specs.Views.{step_of, fit_of};
-ghost use Rattle.layout.specs.Kinds.{hash, serial};
-ghost use Rattle.layout.specs.Format.{cert_body, cert_id};
+ghost use Rattle.layout.proofs.ElementKinds.{hash, serial};
+ghost use Rattle.layout.proofs.Format.{cert_body, cert_id};
 
 use codec::{Fit, Step};
 use read_content::Spot;

@@ -9,8 +9,8 @@ use Rattle.codec.specs.Contents.{fixed_read, filled_dec}
 use Rattle.codec.specs.Views.{step_of}
 use Rattle.codec.specs.declared.Step.TheVariants.{Taken, Bad}
 use Rattle.layout.specs.Words.{single_read, status_ok, reason_ok}
-use Rattle.layout.specs.Kinds.{enumerated}
-use Rattle.layout.specs.Format.{critical, good_status, unknown_status, v1}
+use Rattle.layout.proofs.ElementKinds.{enumerated}
+use Rattle.layout.proofs.Format.{critical, good_status, unknown_status, v1}
 use Rattle.read_codes.specs.Codes.{code_of}
 use Rattle.read_codes.specs.declared.Code.TheVariants as code
 

@@ -2,8 +2,8 @@
 ghost use Rattle.std.specs.Prelude.{◌≡◌};
 ghost use Rattle.codec.specs.Views.{step_of};
 ghost use Rattle.layout.specs.Words.{status_ok, reason_ok};
-ghost use Rattle.layout.specs.Kinds.{enumerated};
-ghost use Rattle.layout.specs.Format.{critical, good_status, unknown_status, v1};
+ghost use Rattle.layout.proofs.ElementKinds.{enumerated};
+ghost use Rattle.layout.proofs.Format.{critical, good_status, unknown_status, v1};
 ghost use Rattle.read_codes.specs.Codes.{code_of, single_at, fixed_at, empty_at};
 
 use crate::Code;

@@ -7,8 +7,8 @@ use Rattle.content.specs.Oid.{oid_from, oid_ok}
 use Rattle.codec.specs.Tagged.{tagged_dec}
 use Rattle.codec.specs.Contents.{octets_read, filled_dec}
 use Rattle.layout.specs.Words.{between, bits_read}
-use Rattle.layout.specs.Kinds.{string, oid}
-use Rattle.layout.specs.Format.{signature_bits}
+use Rattle.layout.proofs.ElementKinds.{string, oid}
+use Rattle.layout.proofs.Format.{signature_bits}
 use Rattle.read_content.specs.Spots.{expected, spot_of}
 use Rattle.read_content.specs.declared.Spot.TheVariants as spot
 

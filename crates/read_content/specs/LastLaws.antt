@@ -14,8 +14,8 @@ use Rattle.codec.proofs.Tagged.{primitive}
 use Rattle.codec.specs.Contents.{octets_read, filled_dec}
 use Rattle.codec.proofs.Contents.{octets_content}
 use Rattle.layout.specs.Words.{between, bits_read}
-use Rattle.layout.specs.Kinds.{string, oid, hash}
-use Rattle.layout.specs.Format.{signature_bits}
+use Rattle.layout.proofs.ElementKinds.{string, oid, hash}
+use Rattle.layout.proofs.Format.{signature_bits}
 use Rattle.read_content.specs.ExpectLaws.{never}
 use Rattle.read_content.specs.PrimitiveLaws.{primitive_got}
 

@@ -2,8 +2,8 @@
 ghost use Rattle.std.specs.Prelude.{◌≡◌};
 ghost use Rattle.element.specs.Header.{header_of};
 ghost use Rattle.layout.specs.Words.{between, anything};
-ghost use Rattle.layout.specs.Kinds.{string, oid};
-ghost use Rattle.layout.specs.Format.{signature_bits};
+ghost use Rattle.layout.proofs.ElementKinds.{string, oid};
+ghost use Rattle.layout.proofs.Format.{signature_bits};
 ghost use Rattle.read_content.specs.Spots.{expected, spot_of};
 
 use crate::Spot;

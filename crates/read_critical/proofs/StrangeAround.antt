@@ -23,7 +23,7 @@ use Rattle.codec.specs.Views.{fit_of}
 use Rattle.codec.proofs.ViewLaws.{fit_only_bad, fit_only_left}
 use Rattle.codec.specs.declared.Fit.TheVariants.{Breaks}
 use Rattle.layout.specs.Reading.{Extension}
-use Rattle.layout.specs.Format.{extension_list, extensions}
+use Rattle.layout.proofs.Format.{extension_list, extensions}
 use Rattle.read_content.specs.Spots.{expected}
 use Rattle.read_content.specs.ExpectLaws.{expected_at, tagged_at_lem, tagged_wrong}
 use Rattle.read_content.specs.declared.Spot.{Spot}

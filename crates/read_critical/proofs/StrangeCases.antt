@@ -23,7 +23,7 @@ use Rattle.codec.proofs.ViewLaws.{fit_fits}
 use Rattle.codec.specs.declared.Fit.{Fit}
 use Rattle.codec.specs.declared.Fit.TheVariants as fit
 use Rattle.layout.specs.Reading.{Extension}
-use Rattle.layout.specs.Format.{extension_after, extension_list}
+use Rattle.layout.proofs.Format.{extension_after, extension_list}
 use Rattle.read_content.specs.ExpectLaws.{never}
 use Rattle.read_oids.specs.Seen.{name_at}
 use Rattle.read_oids.specs.NameLaws.{name_here}

@@ -3,7 +3,7 @@
 -- strict; second_strange, second_known, plain_unknown.
 -- Assumes nothing.
 use Rattle.std.specs.Prelude.{ℕ, ◌≡◌, refl, List, [], ◌∷◌, ◌++◌}
-use Rattle.layout.specs.Opened.{opened}
+use Rattle.layout.proofs.Opened.{opened}
 use Rattle.read_extensions.specs.Examples.{plain}
 use Rattle.read_critical.specs.Strange.{is_strange, strange_moved, strange_at, strange_read, strange_of}
 use Rattle.read_critical.specs.declared.Strange.TheVariants.{None, At}

@@ -11,7 +11,7 @@ use Rattle.codec.specs.Sequence.{only_dec}
 use Rattle.codec.specs.Starts.{starts_with}
 use Rattle.codec.specs.Tagged.{inner, tagged_dec}
 use Rattle.layout.specs.Reading.{Extension}
-use Rattle.layout.specs.Format.{extension_after, extension_list, extensions}
+use Rattle.layout.proofs.Format.{extension_after, extension_list, extensions}
 use Rattle.read_critical.specs.declared.Strange.{Strange}
 use Rattle.read_critical.specs.declared.Strange.TheVariants.{None, At}
 

@@ -21,7 +21,7 @@ use Rattle.codec.specs.Views.{fit_of}
 use Rattle.codec.proofs.ViewLaws.{fit_only_bad}
 use Rattle.codec.specs.declared.Fit.TheVariants.{Breaks}
 use Rattle.layout.specs.Reading.{Extension}
-use Rattle.layout.specs.Format.{extension_after, extension_list, extensions}
+use Rattle.layout.proofs.Format.{extension_after, extension_list, extensions}
 use Rattle.read_critical.specs.Strange.{is_strange, any_strange, strange_moved, strange_at, strange_read, strange_of}
 use Rattle.read_critical.specs.declared.Strange.{Strange}
 use Rattle.read_critical.specs.declared.Strange.TheVariants.{None, At}

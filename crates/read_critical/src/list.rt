@@ -1,6 +1,6 @@
 // A list of extensions: the first that is critical and not understood.
 ghost use Rattle.std.specs.Prelude.{◌≤◌, ◌≡◌, [], ◌∷◌, length, drop};
-ghost use Rattle.layout.specs.Format.{extension_list};
+ghost use Rattle.layout.proofs.Format.{extension_list};
 ghost use Rattle.read_critical.specs.Strange.{strange_read};
 
 use crate::{Strange, one};

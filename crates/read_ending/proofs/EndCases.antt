@@ -14,7 +14,7 @@ use Rattle.codec.specs.Views.{step_of, fit_of}
 use Rattle.codec.specs.declared.Step.{Step}
 use Rattle.codec.specs.declared.Fit.{Fit}
 use Rattle.codec.specs.declared.Fit.TheVariants.{Fits, Breaks}
-use Rattle.layout.specs.Format.{extensions, extensions_start}
+use Rattle.layout.proofs.Format.{extensions, extensions_start}
 use Rattle.read_sequence.specs.Judged.{filled_by}
 use Rattle.read_sequence.specs.CaseLaws.{filled_optional, optional_none}
 use Rattle.read_ending.specs.Ends.{extensions_on}

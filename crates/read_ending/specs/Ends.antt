@@ -6,8 +6,8 @@ use Rattle.std.proofs.Math.Option.{Option}
 use Rattle.codec.specs.Codec.{Whole}
 use Rattle.codec.proofs.Option.{option}
 use Rattle.layout.specs.Reading.{Extension}
-use Rattle.layout.specs.Kinds.{optional}
-use Rattle.layout.specs.Format.{extensions, extensions_start, extensions_apart, next_update, next_starts}
+use Rattle.layout.proofs.ElementKinds.{optional}
+use Rattle.layout.proofs.Format.{extensions, extensions_start, extensions_apart, next_update, next_starts}
 
 -- maybe extensions, and nothing more
 unfoldable pub extensions_on : Whole (Option (List Extension))

@@ -2,8 +2,8 @@
 ghost use Rattle.std.specs.Prelude.{◌≡◌};
 ghost use Rattle.codec.proofs.Sequence.{only};
 ghost use Rattle.codec.specs.Views.{step_of, fit_of};
-ghost use Rattle.layout.specs.Kinds.{time};
-ghost use Rattle.layout.specs.Format.{next_update};
+ghost use Rattle.layout.proofs.ElementKinds.{time};
+ghost use Rattle.layout.proofs.Format.{next_update};
 
 use codec::{Fit, Step};
 use read_content::Spot;

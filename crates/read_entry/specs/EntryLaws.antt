@@ -20,8 +20,8 @@ use Rattle.codec.specs.Tagged.{inner}
 use Rattle.codec.specs.Mapped.{mapped_dec}
 use Rattle.codec.specs.Option.{option_enc}
 use Rattle.layout.specs.Reading.{Entry}
-use Rattle.layout.specs.Kinds.{time}
-use Rattle.layout.specs.Format.{cert_body, cert_id, cert_status, extensions, next_update, single_body, single_response}
+use Rattle.layout.proofs.ElementKinds.{time}
+use Rattle.layout.proofs.Format.{cert_body, cert_id, cert_status, extensions, next_update, single_body, single_response}
 use Rattle.read_content.specs.Spots.{expected}
 use Rattle.read_content.specs.declared.Spot.TheVariants.{At}
 use Rattle.read_ending.specs.PartLaws.{cut_in, tagged_read, field_read}

@@ -6,8 +6,8 @@ use Rattle.std.proofs.Math.Option.{Option}
 use Rattle.codec.specs.Codec.{Whole}
 use Rattle.codec.proofs.Sequence.{field}
 use Rattle.layout.specs.Reading.{Status, Extension}
-use Rattle.layout.specs.Kinds.{time}
-use Rattle.layout.specs.Format.{cert_status}
+use Rattle.layout.proofs.ElementKinds.{time}
+use Rattle.layout.proofs.Format.{cert_status}
 use Rattle.read_ending.specs.Ends.{next_on}
 
 -- thisUpdate, and what follows it

@@ -1,7 +1,7 @@
 // Up to sixty-four entries.
 ghost use Rattle.std.specs.Prelude.{◌≡◌};
 ghost use Rattle.codec.proofs.Many.{many};
-ghost use Rattle.layout.specs.Format.{single_response};
+ghost use Rattle.layout.proofs.Format.{single_response};
 ghost use Rattle.read_entry.specs.Counts.{count_of};
 
 use crate::{Count, singles};

@@ -1,7 +1,7 @@
 // One entry.
 ghost use Rattle.std.specs.Prelude.{◌≡◌};
 ghost use Rattle.codec.specs.Views.{step_of, fit_of};
-ghost use Rattle.layout.specs.Format.{single_body, single_response};
+ghost use Rattle.layout.proofs.Format.{single_body, single_response};
 ghost use Rattle.read_entry.specs.Tails.{this_on, status_on};
 
 use codec::{Fit, Step};

@@ -9,7 +9,7 @@ use Rattle.element.specs.Header.{header_of}
 use Rattle.calendar.specs.Plain.{plain_seconds}
 use Rattle.codec.specs.Option.{option_enc}
 use Rattle.layout.specs.Reading.{Status, good, revoked, unknown, Extension, Entry}
-use Rattle.layout.specs.Format.{extensions}
+use Rattle.layout.proofs.Format.{extensions}
 use Rattle.read_content.specs.Spots.{expected}
 use Rattle.read_content.specs.declared.Spot.{Spot}
 use Rattle.read_content.specs.declared.Spot.TheVariants as spot

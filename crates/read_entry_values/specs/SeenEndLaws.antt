@@ -9,8 +9,8 @@ use Rattle.codec.specs.Codec.{got}
 use Rattle.codec.proofs.CodecLaws.{got_size}
 use Rattle.codec.specs.Option.{option_enc}
 use Rattle.layout.specs.Reading.{Entry}
-use Rattle.layout.specs.Kinds.{time}
-use Rattle.layout.specs.Format.{cert_id, cert_status, extensions, next_update, single_body, single_response}
+use Rattle.layout.proofs.ElementKinds.{time}
+use Rattle.layout.proofs.Format.{cert_id, cert_status, extensions, next_update, single_body, single_response}
 use Rattle.read_entry_values.specs.Looks.{entry_seen}
 
 -- ── the last octets ──

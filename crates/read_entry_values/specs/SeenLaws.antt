@@ -19,9 +19,9 @@ use Rattle.calendar.specs.PlainLaws.{plain_time}
 use Rattle.codec.specs.Option.{option_enc, OptionOk}
 use Rattle.codec.proofs.PartLaws.{form_found, small_left, small_content}
 use Rattle.layout.specs.Reading.{Status, good, revoked, unknown, Extension, Entry}
-use Rattle.layout.specs.Kinds.{time, tag_30}
+use Rattle.layout.proofs.ElementKinds.{time, tag_30}
 use Rattle.layout.specs.Limits.{TimeOk, StatusOk, EntryOk}
-use Rattle.layout.specs.Format.{cert_body, cert_id, cert_status, good_status, unknown_status, revoked_status, revoked_body, reason, extensions, next_update, single_body, single_response}
+use Rattle.layout.proofs.Format.{cert_body, cert_id, cert_status, good_status, unknown_status, revoked_status, revoked_body, reason, extensions, next_update, single_body, single_response}
 use Rattle.read_content.specs.Spots.{expected}
 use Rattle.read_content.specs.declared.Spot.{Spot}
 use Rattle.read_content.specs.declared.Spot.TheVariants as spot

@@ -22,9 +22,9 @@ use Rattle.codec.specs.Branch.{branch_dec}
 use Rattle.codec.proofs.Branch.{branch_then, branch_else, branch_bad}
 use Rattle.codec.specs.Tagged.{inner, tagged_dec}
 use Rattle.layout.specs.Words.{status_ok}
-use Rattle.layout.specs.Kinds.{enumerated}
+use Rattle.layout.proofs.ElementKinds.{enumerated}
 use Rattle.layout.specs.Names.{Envelope, succeeds, EnvelopeParts, envelope_of}
-use Rattle.layout.specs.Format.{response_bytes, envelope_body}
+use Rattle.layout.proofs.Format.{response_bytes, envelope_body}
 use Rattle.read_content.specs.Spots.{expected}
 use Rattle.read_codes.specs.Codes.{code_of}
 use Rattle.read_content.specs.ExpectLaws.{expected_at}

@@ -13,7 +13,7 @@ use Rattle.octets.specs.LentLaws.{rest_is, part_is}
 use Rattle.codec.specs.Codec.{got}
 use Rattle.codec.specs.Sequence.{field_dec}
 use Rattle.layout.specs.Words.{anything}
-use Rattle.layout.specs.Kinds.{oid, string}
+use Rattle.layout.proofs.ElementKinds.{oid, string}
 use Rattle.layout.specs.Read.{basic_type}
 use Rattle.read_content.specs.Spots.{spot_of}
 use Rattle.read_content.specs.LastLaws.{last_oid, last_string}

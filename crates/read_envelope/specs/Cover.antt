@@ -7,7 +7,7 @@ use Rattle.octets.specs.Same.{same_of}
 use Rattle.codec.specs.Codec.{Read, read, broke, Whole}
 use Rattle.codec.proofs.Sequence.{field, only}
 use Rattle.layout.specs.Words.{anything}
-use Rattle.layout.specs.Kinds.{oid, string, sequence}
+use Rattle.layout.proofs.ElementKinds.{oid, string, sequence}
 use Rattle.layout.specs.Names.{Envelope, failure, success}
 use Rattle.layout.specs.Read.{basic_type}
 use Rattle.read_envelope.specs.declared.Cover.{Cover}

@@ -6,7 +6,7 @@
 
 ghost use Rattle.std.specs.Prelude.{◌+◌, ◌^◌, ◌<◌, ◌≡◌};
 ghost use Rattle.codec.proofs.Sequence.{only};
-ghost use Rattle.layout.specs.Format.{response_bytes, envelope_body, envelope};
+ghost use Rattle.layout.proofs.Format.{response_bytes, envelope_body, envelope};
 ghost use Rattle.read_envelope.specs.Cover.{type_string, type_sequence, covered_by, broken_at, bytes_of, cover_of};
 
 use read_codes::Code;

@@ -6,9 +6,10 @@ use Rattle.std.proofs.Common.{arith, sym, ap, ◌∙◌}
 use Rattle.octets.specs.Octets.{Octets}
 use Rattle.layout.specs.Reading.{failed, basic}
 use Rattle.layout.specs.Limits.{FailureOk}
-use Rattle.layout.specs.Read.{Outcome, reads, other_type, unfit, reading, der}
-use Rattle.layout.specs.Opened.{opened}
-use Rattle.layout.specs.Theorem.{sound}
+use Rattle.layout.specs.Read.{Outcome, reads, other_type, unfit}
+use Rattle.layout.proofs.Read.{reading, der}
+use Rattle.layout.proofs.Opened.{opened}
+use Rattle.layout.proofs.Theorem.{sound}
 use Rattle.read_response.specs.Parts.{judged_as, judged_of}
 use Rattle.read_response.specs.Refusals.{refusal_of}
 use Rattle.read_response.specs.declared.Judged.TheVariants as judged

@@ -32,9 +32,9 @@ use Rattle.codec.specs.declared.Step.TheVariants.{Taken, Bad}
 use Rattle.codec.specs.declared.Fit.{Fit}
 use Rattle.codec.specs.declared.Fit.TheVariants as fit
 use Rattle.layout.specs.Words.{anything}
-use Rattle.layout.specs.Kinds.{string, oid, tag_06}
+use Rattle.layout.proofs.ElementKinds.{string, oid, tag_06}
 use Rattle.layout.specs.Names.{extension_of}
-use Rattle.layout.specs.Format.{new_oid, critical, extension_body}
+use Rattle.layout.proofs.Format.{new_oid, critical, extension_body}
 use Rattle.read_content.specs.Spots.{spot_of}
 use Rattle.read_content.specs.LastLaws.{Last, last_primitive, last_string, last_oid}
 use Rattle.read_content.specs.SpotLaws.{spot_reads, spot_wrong}

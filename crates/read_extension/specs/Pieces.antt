@@ -8,8 +8,8 @@ use Rattle.codec.specs.Codec.{Whole}
 use Rattle.codec.proofs.Sequence.{only}
 use Rattle.codec.proofs.Option.{option}
 use Rattle.layout.specs.Words.{anything}
-use Rattle.layout.specs.Kinds.{string}
-use Rattle.layout.specs.Format.{critical, critical_starts, value_apart}
+use Rattle.layout.proofs.ElementKinds.{string}
+use Rattle.layout.proofs.Format.{critical, critical_starts, value_apart}
 
 -- extnValue, and nothing more
 unfoldable pub value : Whole (List ℕ)

@@ -2,7 +2,7 @@
 ghost use Rattle.std.specs.Prelude.{◌≡◌, []};
 ghost use Rattle.codec.specs.Views.{fit_of};
 ghost use Rattle.read_content.specs.Spots.{spot_of};
-ghost use Rattle.layout.specs.Format.{new_oid, extension_body};
+ghost use Rattle.layout.proofs.Format.{new_oid, extension_body};
 ghost use Rattle.read_oids.specs.Seen.{oids_of};
 ghost use Rattle.read_extension.specs.Pieces.{value, flagged};
 

@@ -1,7 +1,7 @@
 // The 30 around what an extension holds.
 ghost use Rattle.std.specs.Prelude.{◌≡◌, []};
 ghost use Rattle.codec.specs.Views.{step_of};
-ghost use Rattle.layout.specs.Format.{extension_after};
+ghost use Rattle.layout.proofs.Format.{extension_after};
 ghost use Rattle.read_oids.specs.Seen.{oids_of};
 
 use crate::body;

@@ -20,9 +20,9 @@ use Rattle.codec.specs.declared.Step.{Step}
 use Rattle.codec.specs.declared.Step.TheVariants.{Taken, Bad}
 use Rattle.codec.specs.declared.Fit.{Fit}
 use Rattle.codec.specs.declared.Fit.TheVariants as fit
-use Rattle.layout.specs.Kinds.{sequence}
+use Rattle.layout.proofs.ElementKinds.{sequence}
 use Rattle.layout.specs.Reading.{Extension}
-use Rattle.layout.specs.Format.{extension_after, extension_list}
+use Rattle.layout.proofs.Format.{extension_after, extension_list}
 use Rattle.read_sequence.specs.Judged.{filled_by}
 use Rattle.read_sequence.specs.CaseLaws.{filled_only}
 use Rattle.read_oids.specs.Seen.{oids_of}

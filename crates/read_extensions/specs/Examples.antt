@@ -3,8 +3,8 @@
 -- Assumes nothing.
 use Rattle.std.specs.Prelude.{ℕ, ◌≡◌, refl, List, [], ◌∷◌, ◌++◌}
 use Rattle.codec.specs.Codec.{bad}
-use Rattle.layout.specs.Format.{extensions}
-use Rattle.layout.specs.Opened.{opened}
+use Rattle.layout.proofs.Format.{extensions}
+use Rattle.layout.proofs.Opened.{opened}
 
 -- 1.2 with no octets as its value
 abbrev pub plain : List ℕ

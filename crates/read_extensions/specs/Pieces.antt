@@ -4,9 +4,9 @@
 use Rattle.std.specs.Prelude.{ℕ, List}
 use Rattle.codec.specs.Codec.{Got, Whole, Element}
 use Rattle.codec.proofs.Sequence.{only}
-use Rattle.layout.specs.Kinds.{sequence}
+use Rattle.layout.proofs.ElementKinds.{sequence}
 use Rattle.layout.specs.Reading.{Extension}
-use Rattle.layout.specs.Format.{extension_after, extension_list}
+use Rattle.layout.proofs.Format.{extension_after, extension_list}
 
 -- the list in its 30
 unfoldable pub sequenced : Element (List Extension)

@@ -1,7 +1,7 @@
 // The list of extensions, and the two elements around it.
 ghost use Rattle.std.specs.Prelude.{◌≡◌};
 ghost use Rattle.codec.specs.Views.{step_of, fit_of};
-ghost use Rattle.layout.specs.Format.{extension_list, extensions};
+ghost use Rattle.layout.proofs.Format.{extension_list, extensions};
 ghost use Rattle.read_extensions.specs.Pieces.{sequenced, held};
 
 use codec::{Fit, Step};

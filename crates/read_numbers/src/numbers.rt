@@ -1,7 +1,7 @@
 // Contents that stand for numbers.
 ghost use Rattle.std.specs.Prelude.{◌≡◌};
 ghost use Rattle.codec.specs.Views.{step_of};
-ghost use Rattle.layout.specs.Kinds.{serial, time};
+ghost use Rattle.layout.proofs.ElementKinds.{serial, time};
 
 use codec::Step;
 use read_content::Spot;

@@ -18,10 +18,10 @@ use Rattle.codec.specs.Sequence.{field_dec, end_dec, only_dec}
 use Rattle.codec.specs.Starts.{starts_with}
 use Rattle.codec.specs.Option.{option_of, option_dec}
 use Rattle.layout.specs.Words.{anything}
-use Rattle.layout.specs.Kinds.{string}
+use Rattle.layout.proofs.ElementKinds.{string}
 use Rattle.layout.specs.Reading.{Extension}
 use Rattle.layout.specs.Names.{is_there, extension_of}
-use Rattle.layout.specs.Format.{new_oid, critical, extension_body, extension_after}
+use Rattle.layout.proofs.Format.{new_oid, critical, extension_body, extension_after}
 use Rattle.read_content.specs.Spots.{expected}
 use Rattle.read_content.specs.ExpectLaws.{never}
 use Rattle.read_content.specs.PrimitiveLaws.{content_read}

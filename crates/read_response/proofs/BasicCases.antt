@@ -18,7 +18,7 @@ use Rattle.codec.specs.Tagged.{inner, tagged_dec}
 use Rattle.codec.specs.Sequence.{field_dec}
 use Rattle.codec.specs.Mapped.{mapped_dec}
 use Rattle.layout.specs.Reading.{Signed}
-use Rattle.layout.specs.Format.{signed_body, response_data, basic_body}
+use Rattle.layout.proofs.Format.{signed_body, response_data, basic_body}
 use Rattle.read_content.specs.Spots.{expected}
 use Rattle.read_content.specs.ExpectLaws.{never, content_end, tagged_at_lem, tagged_wrong, expected_wrong}
 use Rattle.read_content.specs.declared.Spot.{Spot}

@@ -17,10 +17,11 @@ use Rattle.codec.specs.Tagged.{inner, tagged_dec}
 use Rattle.codec.proofs.CodecLaws.{whole_size}
 use Rattle.layout.specs.Reading.{Basic}
 use Rattle.layout.specs.Names.{Envelope, failure, success}
-use Rattle.layout.specs.Format.{basic_body, basic_response, envelope}
-use Rattle.layout.specs.Read.{basic_type, inner_reading, envelope_reading, reading}
-use Rattle.layout.specs.InnerLaws.{string_read}
-use Rattle.layout.specs.Theorem.{inner_place}
+use Rattle.layout.proofs.Format.{basic_body, basic_response, envelope}
+use Rattle.layout.specs.Read.{basic_type, inner_reading}
+use Rattle.layout.proofs.Read.{envelope_reading, reading}
+use Rattle.layout.proofs.InnerLaws.{string_read}
+use Rattle.layout.proofs.Theorem.{inner_place}
 use Rattle.read_content.specs.Spots.{expected}
 use Rattle.read_content.specs.ExpectLaws.{never, tagged_wrong, content_end, content_length}
 use Rattle.read_content.specs.declared.Spot.{Spot}

@@ -2,7 +2,7 @@
 -- full, full_judged; unauthorized, m10, left-over.
 -- Assumes nothing.
 use Rattle.std.specs.Prelude.{ℕ, ◌≡◌, refl, List, [], ◌∷◌, ◌++◌}
-use Rattle.layout.specs.Opened.{opened}
+use Rattle.layout.proofs.Opened.{opened}
 use Rattle.layout.specs.Examples.{type_element, first, next, hashes, signature}
 use Rattle.layout.specs.Sha1.{sha1}
 use Rattle.answer.specs.declared.Place.TheVariants as place

@@ -5,7 +5,8 @@
 use Rattle.std.specs.Prelude.{ℕ, ◌≤◌, ◌≡◌, refl, Bool, true, false, cond, List, ltb, length}
 use Rattle.std.proofs.Common.{ltb-false, le-ltb}
 use Rattle.layout.specs.Reading.{Basic, failed, basic}
-use Rattle.layout.specs.Read.{Outcome, reads, other_type, unfit, reading}
+use Rattle.layout.specs.Read.{Outcome, reads, other_type, unfit}
+use Rattle.layout.proofs.Read.{reading}
 use Rattle.read_content.specs.ExpectLaws.{never}
 use Rattle.read_response.specs.Parts.{judged_as, judged_of, parts_in}
 use Rattle.read_response.specs.declared.Parts.{Parts}

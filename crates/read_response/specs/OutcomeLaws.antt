@@ -17,12 +17,13 @@ use Rattle.content.specs.Oid.{oid_ok}
 use Rattle.codec.specs.Codec.{Read, read, broke}
 use Rattle.layout.specs.Reading.{Basic, failed, basic}
 use Rattle.layout.specs.Names.{Envelope, failure, success}
-use Rattle.layout.specs.Kinds.{oid, enumerated}
+use Rattle.layout.proofs.ElementKinds.{oid, enumerated}
 use Rattle.layout.specs.Words as words
-use Rattle.layout.specs.Format.{basic_response, response_bytes, envelope_body, envelope}
-use Rattle.layout.specs.LimitsLaws.{success_limits}
-use Rattle.layout.specs.ReadLaws.{fits_64}
-use Rattle.layout.specs.Read.{basic_type, Outcome, reads, other_type, unfit, inner_reading, envelope_reading, reading}
+use Rattle.layout.proofs.Format.{basic_response, response_bytes, envelope_body, envelope}
+use Rattle.layout.proofs.LimitsLaws.{success_limits}
+use Rattle.layout.proofs.ReadLaws.{fits_64}
+use Rattle.layout.specs.Read.{basic_type, Outcome, reads, other_type, unfit, inner_reading}
+use Rattle.layout.proofs.Read.{envelope_reading, reading}
 use Rattle.read_content.specs.ExpectLaws.{never}
 use Rattle.read_response.specs.Parts.{judged_as, judged_of}
 use Rattle.read_response.specs.declared.Judged.{Judged}

@@ -12,11 +12,12 @@ use Rattle.codec.specs.Option.{option_enc}
 use Rattle.codec.specs.Many.{forms}
 use Rattle.layout.specs.Reading.{Basic, basic}
 use Rattle.layout.specs.Names.{there}
-use Rattle.layout.specs.Kinds.{time}
-use Rattle.layout.specs.Format.{algorithm_identifier, extensions, single_response, responder_id, version, responses, signed_fields, signed_body, response_data, signature_bits, certificates, basic_body, basic_response}
-use Rattle.layout.specs.InnerLaws.{string_last}
-use Rattle.layout.specs.Read.{basic_type, der, reads, reading}
-use Rattle.layout.specs.Theorem.{sound}
+use Rattle.layout.proofs.ElementKinds.{time}
+use Rattle.layout.proofs.Format.{algorithm_identifier, extensions, single_response, responder_id, version, responses, signed_fields, signed_body, response_data, signature_bits, certificates, basic_body, basic_response}
+use Rattle.layout.proofs.InnerLaws.{string_last}
+use Rattle.layout.specs.Read.{basic_type, reads}
+use Rattle.layout.proofs.Read.{der, reading}
+use Rattle.layout.proofs.Theorem.{sound}
 use Rattle.read_response.specs.Parts.{parts_from, fields_at}
 use Rattle.read_response.specs.Stands.{Stands, Fields, first_stands, held_stands, last_stands, Pieces, one_stands, two_stands, bits_stand, end_stands, content_fields}
 

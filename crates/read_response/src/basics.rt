@@ -1,6 +1,6 @@
 // The basic response: where its parts are in the response.
 ghost use Rattle.std.specs.Prelude.{◌+◌, ◌≤◌, ◌≡◌, length, drop};
-ghost use Rattle.layout.specs.Format.{basic_body, basic_response};
+ghost use Rattle.layout.proofs.Format.{basic_body, basic_response};
 ghost use Rattle.layout.specs.Read.{inner_reading};
 ghost use Rattle.read_response.specs.Parts.{judged_as};
 ghost use Rattle.read_basic.specs.Views.{algorithm_on, tail_of};

@@ -25,7 +25,7 @@ use Rattle.codec.specs.declared.Step.{Step}
 use Rattle.codec.specs.declared.Step.TheVariants.{Taken, Bad}
 use Rattle.codec.specs.declared.Fit.{Fit}
 use Rattle.codec.specs.declared.Fit.TheVariants as fit
-use Rattle.layout.specs.Kinds.{string, optional}
+use Rattle.layout.proofs.ElementKinds.{string, optional}
 use Rattle.read_content.specs.Spots.{expected, spot_of}
 use Rattle.read_content.specs.ExpectLaws as expect
 use Rattle.read_content.specs.LastLaws as last

@@ -32,7 +32,7 @@ use Rattle.codec.specs.Views.{step_of, fit_of, later}
 use Rattle.codec.proofs.ViewLaws.{step_taken, step_bad, fit_further, fit_renamed, step_called, fit_mapped, fit_field_bad, fit_field, fit_only_bad, fit_only, fit_only_left}
 use Rattle.codec.specs.declared.Step.TheVariants.{Taken, Bad}
 use Rattle.codec.specs.declared.Fit.TheVariants.{Fits, Breaks}
-use Rattle.layout.specs.Kinds.{optional}
+use Rattle.layout.proofs.ElementKinds.{optional}
 use Rattle.read_content.specs.Spots.{expected}
 use Rattle.read_content.specs.ExpectLaws.{expected_at, tagged_at_lem, tagged_wrong}
 use Rattle.read_content.specs.declared.Spot.TheVariants as spot

@@ -11,7 +11,7 @@ use Rattle.codec.proofs.ViewLaws.{fit_only_bad}
 use Rattle.codec.specs.declared.Step.TheVariants.{Taken}
 use Rattle.codec.specs.declared.Fit.{Fit}
 use Rattle.codec.specs.declared.Fit.TheVariants as fit
-use Rattle.layout.specs.Kinds.{string}
+use Rattle.layout.proofs.ElementKinds.{string}
 use Rattle.read_content.specs.Spots.{spot_of}
 use Rattle.read_content.specs.LastLaws.{last_string}
 use Rattle.read_content.specs.SpotLaws.{spot_reads, spot_wrong}

@@ -5,7 +5,7 @@ use Rattle.std.specs.Prelude.{List}
 use Rattle.codec.specs.Codec.{Whole}
 use Rattle.codec.proofs.Many.{many}
 use Rattle.codec.specs.Tree.{Tree}
-use Rattle.layout.specs.Kinds.{free_sequence}
+use Rattle.layout.proofs.ElementKinds.{free_sequence}
 
 -- 0 to 8 certificates
 unfoldable pub certificate_run : Whole (List Tree)

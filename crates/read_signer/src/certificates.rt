@@ -3,8 +3,8 @@ ghost use Rattle.std.specs.Prelude.{◌≡◌};
 ghost use Rattle.codec.proofs.Sequence.{only};
 ghost use Rattle.codec.proofs.Many.{many};
 ghost use Rattle.codec.specs.Views.{step_of, fit_of};
-ghost use Rattle.layout.specs.Kinds.{sequence, free_sequence};
-ghost use Rattle.layout.specs.Format.{certificates};
+ghost use Rattle.layout.proofs.ElementKinds.{sequence, free_sequence};
+ghost use Rattle.layout.proofs.Format.{certificates};
 ghost use Rattle.read_signer.specs.Run.{certificate_run};
 
 use codec::{Fit, Step};

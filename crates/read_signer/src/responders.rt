@@ -3,8 +3,8 @@ ghost use Rattle.std.specs.Prelude.{◌≡◌};
 ghost use Rattle.codec.proofs.Sequence.{only};
 ghost use Rattle.codec.specs.Views.{step_of, fit_of};
 ghost use Rattle.layout.specs.Words.{between};
-ghost use Rattle.layout.specs.Kinds.{string, free_sequence};
-ghost use Rattle.layout.specs.Format.{name_id, key_id, responder_id};
+ghost use Rattle.layout.proofs.ElementKinds.{string, free_sequence};
+ghost use Rattle.layout.proofs.Format.{name_id, key_id, responder_id};
 
 use codec::{Fit, Step};
 use read_content::Spot;

@@ -3,8 +3,8 @@ ghost use Rattle.std.specs.Prelude.{◌≡◌};
 ghost use Rattle.codec.proofs.Sequence.{only};
 ghost use Rattle.codec.specs.Views.{step_of, fit_of};
 ghost use Rattle.layout.specs.Words.{reason_ok};
-ghost use Rattle.layout.specs.Kinds.{enumerated, optional};
-ghost use Rattle.layout.specs.Format.{reason, reason_starts, revoked_body, revoked_status, cert_status};
+ghost use Rattle.layout.proofs.ElementKinds.{enumerated, optional};
+ghost use Rattle.layout.proofs.Format.{reason, reason_starts, revoked_body, revoked_status, cert_status};
 
 use codec::{Fit, Step};
 use read_content::Spot;

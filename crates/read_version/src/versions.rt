@@ -2,7 +2,7 @@
 ghost use Rattle.std.specs.Prelude.{◌≡◌};
 ghost use Rattle.codec.proofs.Sequence.{only};
 ghost use Rattle.codec.specs.Views.{step_of, fit_of};
-ghost use Rattle.layout.specs.Format.{v1, version};
+ghost use Rattle.layout.proofs.Format.{v1, version};
 
 use codec::{Fit, Step};
 use read_content::Spot;

@@ -18,9 +18,9 @@ use Rattle.content.specs.SerialLaws.{serial_sound, serial_most}
 use Rattle.codec.specs.Codec.{read}
 use Rattle.layout.specs.Reading.{Algorithm}
 use Rattle.layout.specs.Limits.{AlgorithmOk, HashOk}
-use Rattle.layout.specs.PartLimitsLaws.{cert_limits}
-use Rattle.layout.specs.Kinds as kinds
-use Rattle.layout.specs.EntryFormat.{algorithm_identifier, cert_body, cert_id}
+use Rattle.layout.proofs.PartLimitsLaws.{cert_limits}
+use Rattle.layout.proofs.ElementKinds as kinds
+use Rattle.layout.proofs.EntryFormat.{algorithm_identifier, cert_body, cert_id}
 use Rattle.rule_matching.specs.CertForm.{card_form}
 use Rattle.request.specs.Request.{request_form}
 use Rattle.request.specs.RequestFormat.{single_request, request_list, tbs_request, ocsp_request, cert_with}

@@ -8,8 +8,8 @@ use Rattle.octets.specs.Number.{value_of}
 use Rattle.codec.specs.Codec.{Whole, Element}
 use Rattle.codec.proofs.Sequence.{only}
 use Rattle.layout.specs.Reading.{Algorithm, CertId}
-use Rattle.layout.specs.Kinds.{sequence}
-use Rattle.layout.specs.EntryFormat.{cert_id}
+use Rattle.layout.proofs.ElementKinds.{sequence}
+use Rattle.layout.proofs.EntryFormat.{cert_id}
 use Rattle.layout.specs.Sha1.{sha1}
 use Rattle.answer.specs.Card.{serial_in}
 use Rattle.answer.specs.declared.Card.{Card}

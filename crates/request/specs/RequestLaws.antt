@@ -17,8 +17,8 @@ use Rattle.codec.specs.Codec.{read}
 use Rattle.codec.specs.Tree.{tree_enc}
 use Rattle.layout.specs.Reading.{CertId}
 use Rattle.layout.specs.Limits.{AlgorithmOk}
-use Rattle.layout.specs.Kinds as kinds
-use Rattle.layout.specs.EntryFormat.{algorithm_body, algorithm_identifier}
+use Rattle.layout.proofs.ElementKinds as kinds
+use Rattle.layout.proofs.EntryFormat.{algorithm_body, algorithm_identifier}
 use Rattle.layout.specs.Sha1.{sha1, null_head}
 use Rattle.answer.specs.Card.{serial_in, card_ok}
 use Rattle.answer.specs.CardLaws.{field_exactly, field_same}

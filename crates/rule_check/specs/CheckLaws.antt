@@ -19,12 +19,13 @@ use Rattle.codec.specs.Codec.{read}
 use Rattle.codec.specs.Many.{forms, All}
 use Rattle.codec.proofs.Many.{many}
 use Rattle.layout.specs.Reading.{Entry, Basic, failed, basic}
-use Rattle.layout.specs.LimitsLaws.{entry_limits}
-use Rattle.layout.specs.PartLimitsLaws.{all_limits}
+use Rattle.layout.proofs.LimitsLaws.{entry_limits}
+use Rattle.layout.proofs.PartLimitsLaws.{all_limits}
 use Rattle.layout.specs.Limits.{HashOk, EntryOk, BasicOk}
-use Rattle.layout.specs.Format.{single_response, basic_body}
-use Rattle.layout.specs.Read.{Outcome, reads, other_type, unfit, reading}
-use Rattle.layout.specs.Theorem.{sound}
+use Rattle.layout.proofs.Format.{single_response, basic_body}
+use Rattle.layout.specs.Read.{Outcome, reads, other_type, unfit}
+use Rattle.layout.proofs.Read.{reading}
+use Rattle.layout.proofs.Theorem.{sound}
 use Rattle.read_response.specs.Parts.{parts_from, judged_as, judged_of}
 use Rattle.read_response.specs.PartsLaws.{entries_stand}
 use Rattle.read_response.specs.declared.Parts.{Parts}

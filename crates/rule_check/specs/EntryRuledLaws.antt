@@ -10,9 +10,10 @@ use Rattle.octets.specs.Octets.{Octets}
 use Rattle.codec.specs.Codec.{got}
 use Rattle.codec.specs.Option.{OptionOk}
 use Rattle.layout.specs.Reading.{Status, good, revoked, unknown, Entry, Basic, basic}
-use Rattle.layout.specs.LimitsLaws.{entry_limits}
-use Rattle.layout.specs.Format.{extensions, single_body, single_response}
-use Rattle.layout.specs.Read.{reads, reading}
+use Rattle.layout.proofs.LimitsLaws.{entry_limits}
+use Rattle.layout.proofs.Format.{extensions, single_body, single_response}
+use Rattle.layout.specs.Read.{reads}
+use Rattle.layout.proofs.Read.{reading}
 use Rattle.read_entry_values.specs.Looks.{standing_of, until_of, entry_seen}
 use Rattle.read_entry_values.specs.SeenLaws.{seen_entry}
 use Rattle.read_entry_values.specs.SeenEndLaws.{entry_extensions}

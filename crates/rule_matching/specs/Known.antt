@@ -19,8 +19,8 @@ use Rattle.content.specs.Oid.{oid_ok, oid_from}
 use Rattle.codec.specs.Tree.{Tree, prim, node, TreeOk, depth, tree_enc}
 use Rattle.layout.specs.Reading.{Algorithm}
 use Rattle.layout.specs.Limits.{OidOk, AlgorithmOk}
-use Rattle.layout.specs.Kinds as kinds
-use Rattle.layout.specs.EntryFormat.{algorithm_body, algorithm_identifier}
+use Rattle.layout.proofs.ElementKinds as kinds
+use Rattle.layout.proofs.EntryFormat.{algorithm_body, algorithm_identifier}
 use Rattle.layout.specs.Sha1.{sha1}
 use Rattle.rule_matching.specs.Match.{is_plain, is_sha1}
 use Rattle.rule_matching.specs.Matched.{both}

@@ -14,7 +14,7 @@ use Rattle.content.specs.SerialLaws.{serial_same}
 use Rattle.codec.specs.Codec.{read}
 use Rattle.layout.specs.Reading.{CertId}
 use Rattle.layout.specs.Limits.{HashOk}
-use Rattle.layout.specs.EntryFormat.{cert_body}
+use Rattle.layout.proofs.EntryFormat.{cert_body}
 use Rattle.layout.specs.Sha1.{sha1}
 use Rattle.answer.specs.Card.{serial_in}
 use Rattle.answer.specs.declared.Card.{Card}

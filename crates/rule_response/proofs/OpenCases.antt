@@ -13,8 +13,9 @@ use Rattle.octets.specs.Octets.{Octets}
 use Rattle.octets.specs.OctetsLaws.{octets_from}
 use Rattle.octets.specs.LentLaws.{part_is}
 use Rattle.layout.specs.Reading.{Basic, basic}
-use Rattle.layout.specs.Read.{reads, reading}
-use Rattle.layout.specs.Format.{basic_body}
+use Rattle.layout.specs.Read.{reads}
+use Rattle.layout.proofs.Read.{reading}
+use Rattle.layout.proofs.Format.{basic_body}
 use Rattle.read_critical.specs.Strange.{strange_of}
 use Rattle.read_response.specs.Parts.{parts_from, judged_of}
 use Rattle.read_response.specs.PartsLaws.{responder_stands, extensions_stand}

@@ -10,13 +10,14 @@ use Rattle.std.proofs.Common.{◌∙◌, length-drop, length-take-le, ltb-false}
 use Rattle.std.proofs.Math.ListN.{length}
 use Rattle.octets.specs.Octets.{Octets}
 use Rattle.layout.specs.Reading.{Basic, failed, basic}
-use Rattle.layout.specs.LimitsLaws.{responder_limits}
-use Rattle.layout.specs.PartLimitsLaws.{option_limits, extensions_limits}
+use Rattle.layout.proofs.LimitsLaws.{responder_limits}
+use Rattle.layout.proofs.PartLimitsLaws.{option_limits, extensions_limits}
 use Rattle.layout.specs.Limits.{ExtensionsOk, BasicOk}
-use Rattle.layout.specs.Format.{extensions, basic_body}
-use Rattle.layout.specs.Read.{Outcome, reads, other_type, unfit, reading}
-use Rattle.layout.specs.ReadLaws.{fits_64}
-use Rattle.layout.specs.Theorem.{sound}
+use Rattle.layout.proofs.Format.{extensions, basic_body}
+use Rattle.layout.specs.Read.{Outcome, reads, other_type, unfit}
+use Rattle.layout.proofs.Read.{reading}
+use Rattle.layout.proofs.ReadLaws.{fits_64}
+use Rattle.layout.proofs.Theorem.{sound}
 use Rattle.read_content.specs.ExpectLaws.{never}
 use Rattle.read_critical.specs.Strange.{strange_of}
 use Rattle.read_response.specs.Parts.{parts_from, judged_as, judged_of}

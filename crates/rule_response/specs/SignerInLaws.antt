@@ -17,10 +17,10 @@ use Rattle.element.specs.declared.Header.TheVariants.{Found}
 use Rattle.codec.proofs.PartLaws.{form_found, form_content, small_content}
 use Rattle.codec.specs.Tree.{Tree, tree_enc}
 use Rattle.layout.specs.Reading.{Responder, by_name, by_key}
-use Rattle.layout.specs.Kinds.{free_sequence, tag_a1, tag_a2}
-use Rattle.layout.specs.Format.{name_id, key_id, responder_id}
+use Rattle.layout.proofs.ElementKinds.{free_sequence, tag_a1, tag_a2}
+use Rattle.layout.proofs.Format.{name_id, key_id, responder_id}
 use Rattle.layout.specs.Limits.{ResponderOk}
-use Rattle.layout.specs.LimitsLaws.{responder_limits}
+use Rattle.layout.proofs.LimitsLaws.{responder_limits}
 use Rattle.read_content.specs.Spots.{expected}
 use Rattle.read_content.specs.declared.Spot.TheVariants as spot
 use Rattle.rules.specs.Signer.{is_signer}

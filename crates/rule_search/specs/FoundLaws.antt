@@ -11,7 +11,7 @@ use Rattle.std.proofs.Math.ListN.{length, length-append}
 use Rattle.std.proofs.Math.Seq.{drop-append_seam}
 use Rattle.codec.specs.Many.{forms}
 use Rattle.layout.specs.Reading.{Entry}
-use Rattle.layout.specs.Format.{single_response}
+use Rattle.layout.proofs.Format.{single_response}
 use Rattle.answer.specs.declared.Card.{Card}
 use Rattle.rule_matching.specs.Match.{is_for}
 use Rattle.read_content.specs.ExpectLaws.{never}

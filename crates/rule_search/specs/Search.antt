@@ -9,7 +9,7 @@ use Rattle.element.specs.Header.{header_of}
 use Rattle.element.specs.declared.Header.{Header}
 use Rattle.element.specs.declared.Header.TheVariants as header
 use Rattle.layout.specs.Reading.{Entry}
-use Rattle.layout.specs.Format.{single_response}
+use Rattle.layout.proofs.Format.{single_response}
 use Rattle.read_content.specs.Spots.{expected}
 use Rattle.read_content.specs.declared.Spot.{Spot}
 use Rattle.read_content.specs.declared.Spot.TheVariants.{At, Wrong}

@@ -20,7 +20,7 @@ use Rattle.codec.specs.Mapped.{mapped_dec}
 use Rattle.codec.specs.Tagged.{inner}
 use Rattle.layout.specs.Reading.{Entry}
 use Rattle.layout.specs.Limits.{HashOk}
-use Rattle.layout.specs.Format.{cert_body, cert_id, single_body, single_response}
+use Rattle.layout.proofs.Format.{cert_body, cert_id, single_body, single_response}
 use Rattle.read_entry.specs.Ids.{cert_spot}
 use Rattle.read_ending.specs.PartLaws.{tagged_read, field_read}
 use Rattle.read_entry.specs.EntryLaws.{entry_header, entry_cert}

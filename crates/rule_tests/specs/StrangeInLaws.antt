@@ -15,7 +15,7 @@ use Rattle.codec.specs.Codec.{got}
 use Rattle.codec.specs.Keys.{new_to}
 use Rattle.codec.specs.Option.{option_enc, OptionOk}
 use Rattle.layout.specs.Reading.{Extension}
-use Rattle.layout.specs.Format.{extensions}
+use Rattle.layout.proofs.Format.{extensions}
 use Rattle.read_critical.specs.Strange.{is_strange, strange_of}
 use Rattle.read_critical.specs.Strange as by
 use Rattle.read_critical.specs.StrangeLaws.{strange_clear, strange_found, strange_absent}

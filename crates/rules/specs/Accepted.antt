@@ -8,7 +8,8 @@ use Rattle.std.proofs.Math.Option.{Option, none, some}
 use Rattle.calendar.specs.Time.{last_second}
 use Rattle.codec.specs.Tree.{tree_enc}
 use Rattle.layout.specs.Reading.{Extension, Responder, by_name, by_key, Entry, Basic, failed, basic}
-use Rattle.layout.specs.Read.{reads, unfit, reading}
+use Rattle.layout.specs.Read.{reads, unfit}
+use Rattle.layout.proofs.Read.{reading}
 use Rattle.answer.specs.Card.{card_ok, empty_card}
 use Rattle.answer.specs.declared.Verdict.{Verdict}
 use Rattle.answer.specs.declared.Verdict.TheVariants.{Good, Revoked, Unknown, Refused}

@@ -5,7 +5,8 @@
 use Rattle.std.specs.Prelude.{ℕ, ◌↔◌, ◌≡◌, false, List, [], ◌∷◌, length}
 use borrow.Author.Tests.{ltb-false, le-ltb, eqb-true, eq-eqb, not-false}
 use Rattle.layout.specs.Reading.{Entry, Basic, basic}
-use Rattle.layout.specs.Read.{reads, reading}
+use Rattle.layout.specs.Read.{reads}
+use Rattle.layout.proofs.Read.{reading}
 use Rattle.rules.specs.declared.Question.{Question}
 use Rattle.rules.specs.Signer.{in_response, in_entry}
 use Rattle.rules.specs.Order.{entries_for, missed, tests, first_of}

@@ -10,7 +10,8 @@ use Rattle.std.proofs.Math.Bool.{true, false, not}
 use borrow.Author.Tests.{ltb-true, ltb-false, eqb-true, eqb-false, lt-ltb, le-ltb}
 use Rattle.octets.specs.SameLaws.{impossible}
 use Rattle.layout.specs.Reading.{failed}
-use Rattle.layout.specs.Read.{reads, other_type, unfit, reading}
+use Rattle.layout.specs.Read.{reads, other_type, unfit}
+use Rattle.layout.proofs.Read.{reading}
 use Rattle.answer.specs.Verdict.{refused_at, refused}
 use Rattle.answer.specs.declared.Place.TheVariants as place
 use Rattle.answer.specs.declared.Verdict.TheVariants.{Refused}

@@ -9,8 +9,9 @@ use Rattle.content.specs.Serial.{lead_ok, serial_ok}
 use Rattle.calendar.specs.Examples.{text}
 use Rattle.codec.specs.Tree.{prim}
 use Rattle.layout.specs.Reading.{good, by_key, Basic, failed, basic}
-use Rattle.layout.specs.Read.{basic_type, reads, unfit, reading}
-use Rattle.layout.specs.Opened.{opened}
+use Rattle.layout.specs.Read.{basic_type, reads, unfit}
+use Rattle.layout.proofs.Read.{reading}
+use Rattle.layout.proofs.Opened.{opened}
 use Rattle.layout.specs.Sha1.{sha1}
 use Rattle.freshness.specs.Fresh.{fresh_of}
 use Rattle.answer.specs.Card.{all_zero, field_ok}

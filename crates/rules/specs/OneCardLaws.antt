@@ -11,7 +11,8 @@ use Rattle.octets.specs.OctetsLaws.{octets_take}
 use Rattle.octets.specs.Number.{value_of}
 use Rattle.content.specs.SerialLaws.{serial_same}
 use Rattle.layout.specs.Reading.{Entry, Basic, basic}
-use Rattle.layout.specs.Read.{reads, reading}
+use Rattle.layout.specs.Read.{reads}
+use Rattle.layout.proofs.Read.{reading}
 use Rattle.answer.specs.Card.{serial_in}
 use Rattle.answer.specs.CardLaws.{field_exactly}
 use Rattle.answer.specs.Verdict.{saying}

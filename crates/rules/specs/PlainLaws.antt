@@ -12,7 +12,8 @@ use mathlib.Core.List.{List, [], ◌∷◌, Memᴰ}
 use Rattle.std.proofs.Math.Option.{Option, none, some}
 use Rattle.octets.specs.SameLaws.{impossible}
 use Rattle.layout.specs.Reading.{Extension, Entry, Basic, failed, basic}
-use Rattle.layout.specs.Read.{Outcome, reads, other_type, unfit, reading}
+use Rattle.layout.specs.Read.{Outcome, reads, other_type, unfit}
+use Rattle.layout.proofs.Read.{reading}
 use Rattle.freshness.specs.FreshLaws.{refusal_15, refusal_16}
 use Rattle.rules.specs.declared.Question.{Question}
 use Rattle.rules.specs.Signer.{strange, strange_in}

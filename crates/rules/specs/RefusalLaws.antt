@@ -8,9 +8,10 @@ use Rattle.std.proofs.lemmas.Bool.{eqb-false}
 use Rattle.octets.specs.Octets.{Octets}
 use Rattle.octets.specs.SameLaws.{impossible}
 use Rattle.layout.specs.Reading.{Entry, Basic, failed, basic}
-use Rattle.layout.specs.Read.{Outcome, reads, other_type, unfit, reading}
+use Rattle.layout.specs.Read.{Outcome, reads, other_type, unfit}
+use Rattle.layout.proofs.Read.{reading}
 use Rattle.layout.specs.Limits.{FailureOk}
-use Rattle.layout.specs.Theorem.{sound}
+use Rattle.layout.proofs.Theorem.{sound}
 use Rattle.answer.specs.Verdict.{without_place, refused_at, refused}
 use Rattle.answer.specs.declared.Reason.{Reason}
 use Rattle.answer.specs.declared.Verdict.TheVariants.{Good, Revoked, Unknown, Refused}

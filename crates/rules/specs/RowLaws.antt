@@ -5,7 +5,8 @@
 use Rattle.std.specs.Prelude.{ℕ, ◌≡◌, true, false, ◌&&◌, List, [], ◌∷◌, eqb, ltb, length}
 use Rattle.std.proofs.Math.Option.{some}
 use Rattle.layout.specs.Reading.{Entry, Basic, failed, basic}
-use Rattle.layout.specs.Read.{reads, other_type, unfit, reading}
+use Rattle.layout.specs.Read.{reads, other_type, unfit}
+use Rattle.layout.proofs.Read.{reading}
 use Rattle.answer.specs.Verdict.{saying, refused_at, refused}
 use Rattle.answer.specs.declared.Place.TheVariants as place
 use Rattle.rules.specs.declared.Question.{Question}

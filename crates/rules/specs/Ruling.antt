@@ -4,7 +4,8 @@
 use Rattle.std.specs.Prelude.{ℕ, cond, List, [], ◌∷◌, eqb, length}
 use Rattle.std.proofs.Math.Option.{Option, none, some}
 use Rattle.layout.specs.Reading.{Status, good, revoked, unknown, Entry, failed, basic}
-use Rattle.layout.specs.Read.{Outcome, reads, other_type, unfit, reading}
+use Rattle.layout.specs.Read.{Outcome, reads, other_type, unfit}
+use Rattle.layout.proofs.Read.{reading}
 use Rattle.answer.specs.Verdict.{saying, refused_at, refused}
 use Rattle.answer.specs.declared.Card.{Card}
 use Rattle.answer.specs.declared.Reason.{Reason}

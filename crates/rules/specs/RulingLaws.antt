@@ -8,7 +8,7 @@ use Rattle.std.proofs.Common.{arith, sym, ap, ◌∙◌, eqb-true, ne_eqb}
 use Rattle.std.proofs.Math.Option.{Option}
 use Rattle.std.proofs.lemmas.Bool.{eqb-false}
 use Rattle.layout.specs.Reading.{Status, good, revoked, unknown, Entry, Basic}
-use Rattle.layout.specs.Read.{reading}
+use Rattle.layout.proofs.Read.{reading}
 use Rattle.answer.specs.Verdict.{saying, without_place, refused_at}
 use Rattle.answer.specs.declared.Reason.{Reason}
 use Rattle.answer.specs.declared.Verdict.{Verdict}

@@ -15,7 +15,7 @@ use Rattle.element.specs.HeaderLaws.{header_inside}
 use Rattle.element.specs.declared.Header.{Header}
 use Rattle.element.specs.declared.Header.TheVariants as header
 use Rattle.codec.specs.Many.{forms}
-use Rattle.layout.specs.Format.{single_response}
+use Rattle.layout.proofs.Format.{single_response}
 use Rattle.read_response.specs.Parts.{parts_from, judged_of, parts_in}
 use Rattle.read_response.specs.PartsLaws.{entries_stand}
 use Rattle.read_response.specs.JudgedLaws.{Reads, judged_basic}

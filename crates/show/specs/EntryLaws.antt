@@ -7,8 +7,9 @@ use Rattle.std.proofs.Common.{arith, sym, ap, ◌∙◌, append_assoc, length-ap
 use Rattle.octets.specs.Octets.{Octets}
 use Rattle.codec.specs.Many.{forms}
 use Rattle.layout.specs.Reading as reading
-use Rattle.layout.specs.Format.{single_response}
-use Rattle.layout.specs.Read.{Outcome, reads, other_type, unfit, reading}
+use Rattle.layout.proofs.Format.{single_response}
+use Rattle.layout.specs.Read.{Outcome, reads, other_type, unfit}
+use Rattle.layout.proofs.Read.{reading}
 use Rattle.read_response.specs.Parts.{span, judged_as, judged_of, parts_in}
 use Rattle.read_response.specs.Stands.{Stands, part_stands}
 use Rattle.read_response.specs.PartsLaws.{entries_stand}

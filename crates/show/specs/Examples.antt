@@ -2,7 +2,7 @@
 -- full_signature, first_entry, second_entry, no_entry. The response is full of crate read_response.
 -- Assumes nothing.
 use Rattle.std.specs.Prelude.{◌≡◌, refl, [], ◌∷◌}
-use Rattle.layout.specs.Opened.{opened}
+use Rattle.layout.proofs.Opened.{opened}
 use Rattle.read_response.specs.Parts.{parts_from, judged_as, judged_of}
 use Rattle.read_response.specs.Examples.{full}
 use Rattle.show.specs.Shown.{signature_in, signature_of, entry_in, entry_as, entry_of}

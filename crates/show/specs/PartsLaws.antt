@@ -9,7 +9,8 @@ use Rattle.std.proofs.Math.ListN.{length}
 use Rattle.octets.specs.Octets.{Octets}
 use Rattle.octets.specs.LentLaws.{Known, known_octets}
 use Rattle.layout.specs.Reading.{Basic, basic}
-use Rattle.layout.specs.Read.{reads, reading}
+use Rattle.layout.specs.Read.{reads}
+use Rattle.layout.proofs.Read.{reading}
 use Rattle.read_response.specs.Parts.{judged_of, parts_in}
 use Rattle.read_response.specs.PartsLaws.{signed_stands, algorithm_stands, signature_stands, certificates_stand}
 use Rattle.read_response.specs.JudgedLaws.{judged_basic}

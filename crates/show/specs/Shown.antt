@@ -5,8 +5,9 @@
 use Rattle.std.specs.Prelude.{ℕ, ◌+◌, ◌-◌, cond, List, [], ltb, length, take, drop}
 use Rattle.codec.specs.Many.{forms}
 use Rattle.layout.specs.Reading as reading
-use Rattle.layout.specs.Format.{single_response, basic_body}
-use Rattle.layout.specs.Read.{Outcome, reads, other_type, unfit, reading}
+use Rattle.layout.proofs.Format.{single_response, basic_body}
+use Rattle.layout.specs.Read.{Outcome, reads, other_type, unfit}
+use Rattle.layout.proofs.Read.{reading}
 use Rattle.read_response.specs.Parts.{parts_from, judged_as, judged_of}
 use Rattle.read_response.specs.Refusals.{refusal_of}
 use Rattle.read_response.specs.declared.Span.{Span}

@@ -4,8 +4,9 @@
 use Rattle.std.specs.Prelude.{ℕ, ◌≤◌, ◌≡◌, List, length}
 use Rattle.octets.specs.Octets.{Octets}
 use Rattle.layout.specs.Reading.{Basic, basic}
-use Rattle.layout.specs.Format.{response_data}
-use Rattle.layout.specs.Read.{reads, reading}
+use Rattle.layout.proofs.Format.{response_data}
+use Rattle.layout.specs.Read.{reads}
+use Rattle.layout.proofs.Read.{reading}
 use Rattle.read_response.specs.PartsLaws.{signed_stands, signature_stands}
 use Rattle.read_response.specs.JudgedLaws.{basic_judged}
 use Rattle.show.specs.Shown.{signed_in, signed_of, signature_in, signature_of}

@@ -15,8 +15,8 @@ use Rattle.element.specs.declared.Header.TheVariants.{Found, Refused}
 use Rattle.codec.proofs.PartLaws.{form_found, small_left, small_right, small_content}
 use Rattle.codec.specs.Many.{forms}
 use Rattle.layout.specs.Reading.{Entry}
-use Rattle.layout.specs.Kinds.{tag_30}
-use Rattle.layout.specs.Format.{single_body, single_response}
+use Rattle.layout.proofs.ElementKinds.{tag_30}
+use Rattle.layout.proofs.Format.{single_body, single_response}
 use Rattle.show.specs.Steps.{head_span, step_size, steps_size, spot_after}
 use Rattle.show.specs.declared.Entry.TheVariants as entry
 

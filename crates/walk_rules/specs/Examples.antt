@@ -5,7 +5,7 @@
 use Rattle.std.specs.Prelude.{ℕ, ◌≡◌, List, [], ◌∷◌, ◌++◌, replicate}
 use Rattle.std.proofs.Math.Path.{refl}
 use denote.Ref.{MutBor, at_last}
-use Rattle.layout.specs.Opened.{opened}
+use Rattle.layout.proofs.Opened.{opened}
 use Rattle.layout.specs.Examples.{type_element, first, hashes, signature}
 use Rattle.layout.specs.Sha1.{sha1}
 use Rattle.read_response.specs.Parts.{parts_from, judged_as, judged_of}

@@ -17,8 +17,9 @@ use Rattle.std.specs.Borrow.{Bor}
 use Rattle.octets.specs.Octets.{Octets}
 use Rattle.codec.specs.Many.{forms}
 use Rattle.layout.specs.Reading as reading
-use Rattle.layout.specs.Format.{single_response}
-use Rattle.layout.specs.Read.{reads, reading}
+use Rattle.layout.proofs.Format.{single_response}
+use Rattle.layout.specs.Read.{reads}
+use Rattle.layout.proofs.Read.{reading}
 use Rattle.read_response.specs.Parts.{judged_of}
 use Rattle.answer.specs.declared.Place.{Place}
 use Rattle.show.specs.Shown.{refused_entry, entry_of}

@@ -7,8 +7,9 @@ use Rattle.std.proofs.Common.{arith, sym, ap, ◌∙◌, length-take-le, ltb-tru
 use Rattle.std.proofs.Math.ListN.{length-drop}
 use Rattle.octets.specs.Octets.{Octets}
 use Rattle.layout.specs.Reading as reading
-use Rattle.layout.specs.Read.{Outcome, reads, other_type, unfit, reading}
-use Rattle.layout.specs.Theorem.{sound}
+use Rattle.layout.specs.Read.{Outcome, reads, other_type, unfit}
+use Rattle.layout.proofs.Read.{reading}
+use Rattle.layout.proofs.Theorem.{sound}
 use Rattle.read_content.specs.ExpectLaws.{never}
 use Rattle.show.specs.Shown.{refused_entry, entry_in, entry_as, entry_of}
 use Rattle.show.specs.EntryLaws.{entry_shown, entry_stands}

@@ -1,7 +1,7 @@
 -- `read_envelope::read_envelope` meets its contract, by the header and the content.
 -- Assumes nothing.
 use borrow.Author.Rules.{rules}
-use Rattle.layout.specs.Format.{envelope}
+use Rattle.layout.proofs.Format.{envelope}
 use Rattle.read_envelope.proofs.CoverCases.{held_sum, held_end, held_place, held_wrong, held_closed}
 use Rattle.read_envelope.proofs.read_envelope.Goals as goal
 

@@ -2,8 +2,8 @@
 -- Assumes nothing.
 use borrow.Author.Rules.{rules}
 use Rattle.codec.proofs.Maybe.{maybe}
-use Rattle.layout.specs.Kinds.{oid, free}
-use Rattle.layout.specs.Format.{algorithm_body}
+use Rattle.layout.proofs.ElementKinds.{oid, free}
+use Rattle.layout.proofs.Format.{algorithm_body}
 use Rattle.read_content.specs.LastLaws.{last_oid}
 use Rattle.read_sequence.specs.CaseLaws.{spot_wrong, spot_sum, spot_end, spot_after_lem, named}
 use Rattle.read_algorithm.proofs.algorithms.algorithm_body.Goals as goal

@@ -1,7 +1,7 @@
 -- `read_algorithm::algorithms::any_algorithm` meets its contract, by the header and the content.
 -- Assumes nothing.
 use borrow.Author.Rules.{rules}
-use Rattle.layout.specs.Format.{algorithm_identifier}
+use Rattle.layout.proofs.Format.{algorithm_identifier}
 use Rattle.read_sequence.specs.CaseLaws.{tagged_wrong, tagged_sum, tagged_end, tagged_closed}
 use Rattle.read_algorithm.proofs.algorithms.any_algorithm.Goals as goal
 

@@ -1,7 +1,7 @@
 -- `read_algorithm::algorithms::parameters` meets its contract, by whether there is an octet.
 -- Assumes nothing.
 use borrow.Author.Rules.{rules}
-use Rattle.layout.specs.Kinds.{free}
+use Rattle.layout.proofs.ElementKinds.{free}
 use Rattle.read_sequence.specs.CaseLaws.{maybe_none, filled_maybe}
 use Rattle.read_algorithm.proofs.algorithms.parameters.Goals as goal
 

@@ -3,7 +3,7 @@
 use borrow.Author.Rules.{rules}
 use Rattle.read_basic.specs.Views.{certificates_on}
 use Rattle.read_sequence.specs.CaseLaws.{filled_optional, optional_none}
-use Rattle.layout.specs.Format.{certificates}
+use Rattle.layout.proofs.Format.{certificates}
 use Rattle.read_basic.proofs.tails.certificates_maybe.Goals as goal
 
 pub returns-then-starts_with : goal.returns-then-starts_with

@@ -1,7 +1,7 @@
 -- `read_basic::tails::signature_and_more` meets its contract, by the signature and what follows it.
 -- Assumes nothing.
 use borrow.Author.Rules.{rules}
-use Rattle.layout.specs.Format.{signature_bits}
+use Rattle.layout.proofs.Format.{signature_bits}
 use Rattle.read_content.specs.LastLaws.{last_bits}
 use Rattle.read_sequence.specs.CaseLaws.{spot_end, spot_sum}
 use Rattle.read_basic.proofs.TailCases.{signature_wrong, certificates_place, certificates_wrong, signature_found}

@@ -2,8 +2,8 @@
 -- Assumes nothing.
 use borrow.Author.Rules.{rules}
 use Rattle.codec.proofs.Sequence.{field, only}
-use Rattle.layout.specs.Kinds.{hash, serial}
-use Rattle.layout.specs.Format.{algorithm_identifier, cert_body}
+use Rattle.layout.proofs.ElementKinds.{hash, serial}
+use Rattle.layout.proofs.Format.{algorithm_identifier, cert_body}
 use Rattle.read_sequence.specs.CaseLaws.{field_wrong, field_end, field_after, named}
 use Rattle.read_cert_id.proofs.certs.cert_body.Goals as goal
 

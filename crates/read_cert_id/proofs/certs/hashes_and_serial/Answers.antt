@@ -2,7 +2,7 @@
 -- Assumes nothing.
 use borrow.Author.Rules.{rules}
 use Rattle.codec.proofs.Sequence.{field, only}
-use Rattle.layout.specs.Kinds.{hash, serial}
+use Rattle.layout.proofs.ElementKinds.{hash, serial}
 use Rattle.read_content.specs.LastLaws.{last_hash}
 use Rattle.read_sequence.specs.CaseLaws.{string_sum, string_end, spot_wrong, spot_after_lem}
 use Rattle.read_cert_id.proofs.certs.hashes_and_serial.Goals as goal

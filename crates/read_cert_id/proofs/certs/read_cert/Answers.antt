@@ -1,7 +1,7 @@
 -- `read_cert_id::certs::read_cert` meets its contract, by the header and the content.
 -- Assumes nothing.
 use borrow.Author.Rules.{rules}
-use Rattle.layout.specs.Format.{cert_id}
+use Rattle.layout.proofs.Format.{cert_id}
 use Rattle.read_sequence.specs.CaseLaws.{tagged_wrong, tagged_sum, tagged_end, tagged_closed}
 use Rattle.read_cert_id.proofs.certs.read_cert.Goals as goal
 

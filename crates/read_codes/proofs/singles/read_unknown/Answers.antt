@@ -1,7 +1,7 @@
 -- `read_codes::singles::read_unknown` meets its contract, which is that of an element without content.
 -- Assumes nothing.
 use borrow.Author.Rules.{rules}
-use Rattle.layout.specs.Format.{unknown_status}
+use Rattle.layout.proofs.Format.{unknown_status}
 use Rattle.read_codes.specs.Codes.{empty_at}
 use Rattle.read_codes.proofs.singles.read_unknown.Goals as goal
 

@@ -1,7 +1,7 @@
 -- `read_codes::singles::read_v1` meets its contract, which is that of an element of one octet.
 -- Assumes nothing.
 use borrow.Author.Rules.{rules}
-use Rattle.layout.specs.Format.{v1}
+use Rattle.layout.proofs.Format.{v1}
 use Rattle.read_codes.specs.Codes.{fixed_at}
 use Rattle.read_codes.proofs.singles.read_v1.Goals as goal
 

@@ -1,7 +1,7 @@
 -- `read_content::spots::read_bits` meets its contract, by the header, the length of the content and its first octet.
 -- Assumes nothing.
 use borrow.Author.Rules.{rules}
-use Rattle.layout.specs.Format.{signature_bits}
+use Rattle.layout.proofs.Format.{signature_bits}
 use Rattle.read_content.specs.PrimitiveCaseLaws.{wrong_spot}
 use Rattle.read_content.proofs.ContentCases.{bits_few, bits_place, bits_unused, bits_start, bits_whole}
 use Rattle.read_content.proofs.spots.read_bits.Goals as goal

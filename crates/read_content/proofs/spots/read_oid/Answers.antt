@@ -1,7 +1,7 @@
 -- `read_content::spots::read_oid` meets its contract, by the header and the content.
 -- Assumes nothing.
 use borrow.Author.Rules.{rules}
-use Rattle.layout.specs.Kinds.{oid}
+use Rattle.layout.proofs.ElementKinds.{oid}
 use Rattle.read_content.specs.ExpectLaws.{content_sum, content_end}
 use Rattle.read_content.specs.PrimitiveCaseLaws.{wrong_spot}
 use Rattle.read_content.proofs.ContentCases.{octets_pass, octets_fail}

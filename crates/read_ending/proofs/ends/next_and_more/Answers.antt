@@ -1,7 +1,7 @@
 -- `read_ending::ends::next_and_more` meets its contract, by the first octet, nextUpdate and what follows it.
 -- Assumes nothing.
 use borrow.Author.Rules.{rules}
-use Rattle.layout.specs.Format.{next_update}
+use Rattle.layout.proofs.Format.{next_update}
 use Rattle.read_sequence.specs.CaseLaws.{field_wrong, field_end, field_after, option_there, option_missing}
 use Rattle.read_ending.specs.Ends.{extensions_on, next_on}
 use Rattle.read_ending.proofs.ends.next_and_more.Goals as goal

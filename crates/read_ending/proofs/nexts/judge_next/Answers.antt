@@ -2,8 +2,8 @@
 -- Assumes nothing.
 use borrow.Author.Rules.{rules}
 use Rattle.codec.proofs.Sequence.{only}
-use Rattle.layout.specs.Kinds.{time}
-use Rattle.layout.specs.Format.{next_update}
+use Rattle.layout.proofs.ElementKinds.{time}
+use Rattle.layout.proofs.Format.{next_update}
 use Rattle.read_sequence.specs.CaseLaws.{tagged_wrong, tagged_sum, tagged_end, tagged_closed}
 use Rattle.read_ending.proofs.nexts.judge_next.Goals as goal
 

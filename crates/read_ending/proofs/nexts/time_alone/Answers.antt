@@ -2,7 +2,7 @@
 -- Assumes nothing.
 use borrow.Author.Rules.{rules}
 use Rattle.read_sequence.specs.CaseLaws.{filled_only}
-use Rattle.layout.specs.Kinds.{time}
+use Rattle.layout.proofs.ElementKinds.{time}
 use Rattle.read_ending.proofs.nexts.time_alone.Goals as goal
 
 pub returns : goal.returns

@@ -8,7 +8,7 @@ use mathlib.Core.Option.{some}
 use lib.ListN.{length}
 use Rattle.codec.proofs.TurnLaws.{Turns, turn_start, turn_end, turn_over, turn_bad, turn_next, turn_place, turn_inside, turn_sum, turn_less}
 use Rattle.layout.specs.Reading.{Entry}
-use Rattle.layout.specs.Format.{single_response}
+use Rattle.layout.proofs.Format.{single_response}
 use Rattle.read_entry.proofs.CountTurns.{counts}
 use Rattle.read_entry.proofs.entries.read_entries.Given as goal
 

@@ -1,7 +1,7 @@
 -- `read_entry::singles::read_single` meets its contract, by the header and the content.
 -- Assumes nothing.
 use borrow.Author.Rules.{rules}
-use Rattle.layout.specs.Format.{single_response}
+use Rattle.layout.proofs.Format.{single_response}
 use Rattle.read_sequence.specs.CaseLaws.{tagged_wrong, tagged_sum, tagged_end, tagged_closed}
 use Rattle.read_entry.proofs.singles.read_single.Goals as goal
 

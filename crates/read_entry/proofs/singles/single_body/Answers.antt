@@ -1,7 +1,7 @@
 -- `read_entry::singles::single_body` meets its contract, by the CertID and what follows it.
 -- Assumes nothing.
 use borrow.Author.Rules.{rules}
-use Rattle.layout.specs.Format.{cert_id, single_body}
+use Rattle.layout.proofs.Format.{cert_id, single_body}
 use Rattle.read_sequence.specs.CaseLaws.{field_wrong, field_end, field_after, named}
 use Rattle.read_ending.specs.Ends.{next_on}
 use Rattle.read_entry.specs.Tails.{this_on, status_on}

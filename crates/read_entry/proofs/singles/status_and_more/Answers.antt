@@ -1,7 +1,7 @@
 -- `read_entry::singles::status_and_more` meets its contract, by the status and what follows it.
 -- Assumes nothing.
 use borrow.Author.Rules.{rules}
-use Rattle.layout.specs.Format.{cert_status}
+use Rattle.layout.proofs.Format.{cert_status}
 use Rattle.read_sequence.specs.CaseLaws.{field_wrong, field_end, field_after}
 use Rattle.read_entry.specs.Tails.{this_on, status_on}
 use Rattle.read_entry.proofs.singles.status_and_more.Goals as goal

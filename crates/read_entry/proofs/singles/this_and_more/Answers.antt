@@ -1,7 +1,7 @@
 -- `read_entry::singles::this_and_more` meets its contract, by the time and what follows it.
 -- Assumes nothing.
 use borrow.Author.Rules.{rules}
-use Rattle.layout.specs.Kinds.{time}
+use Rattle.layout.proofs.ElementKinds.{time}
 use Rattle.read_sequence.specs.CaseLaws.{field_wrong, field_end, field_after}
 use Rattle.read_ending.specs.Ends.{next_on}
 use Rattle.read_entry.specs.Tails.{this_on}

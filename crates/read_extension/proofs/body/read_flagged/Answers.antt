@@ -1,7 +1,7 @@
 -- `read_extension::body::read_flagged` meets its contract, by the first octet, and then by TRUE and the value.
 -- Assumes nothing.
 use borrow.Author.Rules.{rules}
-use Rattle.layout.specs.Format.{critical}
+use Rattle.layout.proofs.Format.{critical}
 use Rattle.read_sequence.specs.CaseLaws.{field_end}
 use Rattle.read_extension.proofs.BodyCases.{flag_wrong, flag_after, flag_none}
 use Rattle.read_extension.proofs.body.read_flagged.Goals as goal

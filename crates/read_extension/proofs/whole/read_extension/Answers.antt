@@ -1,7 +1,7 @@
 -- `read_extension::whole::read_extension` meets its contract, by the header and by what it holds.
 -- Assumes nothing.
 use borrow.Author.Rules.{rules}
-use Rattle.layout.specs.Format.{extension_after}
+use Rattle.layout.proofs.Format.{extension_after}
 use Rattle.read_sequence.specs.CaseLaws.{tagged_wrong, tagged_end, tagged_sum, tagged_closed}
 use Rattle.read_extension.proofs.whole.read_extension.Goals as goal
 

@@ -1,7 +1,7 @@
 -- `read_extensions::list::read_extensions` meets its contract, by the header and by what it holds.
 -- Assumes nothing.
 use borrow.Author.Rules.{rules}
-use Rattle.layout.specs.Format.{extensions}
+use Rattle.layout.proofs.Format.{extensions}
 use Rattle.read_extensions.specs.Pieces.{held}
 use Rattle.read_sequence.specs.CaseLaws.{tagged_wrong, tagged_end, tagged_sum, tagged_closed}
 use Rattle.read_extensions.proofs.list.read_extensions.Goals as goal

@@ -1,7 +1,7 @@
 -- `read_numbers::numbers::judge_time` meets its contract, by the header and the content.
 -- Assumes nothing.
 use borrow.Author.Rules.{rules}
-use Rattle.layout.specs.Kinds.{time}
+use Rattle.layout.proofs.ElementKinds.{time}
 use Rattle.read_content.specs.ExpectLaws.{content_sum, content_end}
 use Rattle.read_content.specs.PrimitiveCaseLaws.{wrong_step}
 use Rattle.read_numbers.proofs.TimeCases.{time_pass, time_fail}

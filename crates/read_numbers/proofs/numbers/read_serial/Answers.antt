@@ -1,7 +1,7 @@
 -- `read_numbers::numbers::read_serial` meets its contract, by the header and the content.
 -- Assumes nothing.
 use borrow.Author.Rules.{rules}
-use Rattle.layout.specs.Kinds.{serial}
+use Rattle.layout.proofs.ElementKinds.{serial}
 use Rattle.read_content.specs.ExpectLaws.{content_sum, content_end}
 use Rattle.read_content.specs.PrimitiveCaseLaws.{wrong_step}
 use Rattle.read_numbers.proofs.NumberCases.{serial_pass, serial_fail}

@@ -3,7 +3,7 @@
 use borrow.Author.Rules.{rules}
 use Rattle.read_signer.specs.Run.{certificate_run}
 use Rattle.read_sequence.specs.CaseLaws.{filled_only}
-use Rattle.layout.specs.Kinds.{sequence}
+use Rattle.layout.proofs.ElementKinds.{sequence}
 use Rattle.read_signer.proofs.certificates.list_alone.Goals as goal
 
 pub returns : goal.returns

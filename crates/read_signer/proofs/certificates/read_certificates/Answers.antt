@@ -3,8 +3,8 @@
 use borrow.Author.Rules.{rules}
 use Rattle.read_signer.specs.Run.{certificate_run}
 use Rattle.read_sequence.specs.CaseLaws.{tagged_wrong, tagged_sum, tagged_end, tagged_closed}
-use Rattle.layout.specs.Format.{certificates}
-use Rattle.layout.specs.Kinds.{sequence}
+use Rattle.layout.proofs.Format.{certificates}
+use Rattle.layout.proofs.ElementKinds.{sequence}
 use Rattle.codec.proofs.Sequence.{only}
 use Rattle.read_signer.proofs.certificates.read_certificates.Goals as goal
 

@@ -2,7 +2,7 @@
 -- Assumes nothing.
 use borrow.Author.Rules.{rules}
 use Rattle.read_sequence.specs.CaseLaws.{filled_only}
-use Rattle.layout.specs.Kinds.{free_sequence}
+use Rattle.layout.proofs.ElementKinds.{free_sequence}
 use Rattle.read_signer.proofs.responders.name_alone.Goals as goal
 
 pub read_tree_tagged-step-requires : goal.read_tree_tagged-step-requires

@@ -2,8 +2,8 @@
 -- Assumes nothing.
 use borrow.Author.Rules.{rules}
 use Rattle.read_sequence.specs.CaseLaws.{tagged_wrong, tagged_sum, tagged_end, tagged_closed}
-use Rattle.layout.specs.Format.{key_id}
-use Rattle.layout.specs.Kinds.{string}
+use Rattle.layout.proofs.Format.{key_id}
+use Rattle.layout.proofs.ElementKinds.{string}
 use Rattle.layout.specs.Words.{between}
 use Rattle.codec.proofs.Sequence.{only}
 use Rattle.read_signer.proofs.responders.read_key.Goals as goal

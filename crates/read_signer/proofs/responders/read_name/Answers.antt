@@ -2,8 +2,8 @@
 -- Assumes nothing.
 use borrow.Author.Rules.{rules}
 use Rattle.read_sequence.specs.CaseLaws.{tagged_wrong, tagged_sum, tagged_end, tagged_closed}
-use Rattle.layout.specs.Format.{name_id}
-use Rattle.layout.specs.Kinds.{free_sequence}
+use Rattle.layout.proofs.Format.{name_id}
+use Rattle.layout.proofs.ElementKinds.{free_sequence}
 use Rattle.codec.proofs.Sequence.{only}
 use Rattle.read_signer.proofs.responders.read_name.Goals as goal
 

@@ -2,7 +2,7 @@
 -- Assumes nothing.
 use borrow.Author.Rules.{rules}
 use Rattle.read_sequence.specs.CaseLaws.{choice_first, choice_second, named_element}
-use Rattle.layout.specs.Format.{responder_id}
+use Rattle.layout.proofs.Format.{responder_id}
 use Rattle.read_signer.proofs.responders.read_responder.Goals as goal
 
 pub starts_with-requires : goal.starts_with-requires

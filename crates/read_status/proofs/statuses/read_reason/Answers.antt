@@ -3,8 +3,8 @@
 use borrow.Author.Rules.{rules}
 use Rattle.codec.proofs.Sequence.{only}
 use Rattle.layout.specs.Words.{reason_ok}
-use Rattle.layout.specs.Kinds.{enumerated}
-use Rattle.layout.specs.Format.{reason}
+use Rattle.layout.proofs.ElementKinds.{enumerated}
+use Rattle.layout.proofs.Format.{reason}
 use Rattle.read_sequence.specs.CaseLaws.{tagged_wrong, tagged_sum, tagged_end, tagged_closed}
 use Rattle.read_status.proofs.statuses.read_reason.Goals as goal
 

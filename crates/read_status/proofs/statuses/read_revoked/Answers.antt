@@ -1,7 +1,7 @@
 -- `read_status::statuses::read_revoked` meets its contract, by the header and the content.
 -- Assumes nothing.
 use borrow.Author.Rules.{rules}
-use Rattle.layout.specs.Format.{revoked_status}
+use Rattle.layout.proofs.Format.{revoked_status}
 use Rattle.read_sequence.specs.CaseLaws.{tagged_wrong, tagged_sum, tagged_end, tagged_closed}
 use Rattle.read_status.proofs.statuses.read_revoked.Goals as goal
 

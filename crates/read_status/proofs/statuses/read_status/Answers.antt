@@ -1,7 +1,7 @@
 -- `read_status::statuses::read_status` meets its contract, by the first octet.
 -- Assumes nothing.
 use borrow.Author.Rules.{rules}
-use Rattle.layout.specs.Format.{cert_status}
+use Rattle.layout.proofs.Format.{cert_status}
 use Rattle.read_sequence.specs.CaseLaws.{choice_first, choice_second, named_element}
 use Rattle.read_status.proofs.statuses.read_status.Goals as goal
 

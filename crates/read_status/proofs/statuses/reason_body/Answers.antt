@@ -3,7 +3,7 @@
 use borrow.Author.Rules.{rules}
 use Rattle.read_sequence.specs.CaseLaws.{filled_only}
 use Rattle.layout.specs.Words.{reason_ok}
-use Rattle.layout.specs.Kinds.{enumerated}
+use Rattle.layout.proofs.ElementKinds.{enumerated}
 use Rattle.read_status.proofs.statuses.reason_body.Goals as goal
 
 pub returns : goal.returns

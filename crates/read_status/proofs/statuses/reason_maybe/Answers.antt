@@ -1,7 +1,7 @@
 -- `read_status::statuses::reason_maybe` meets its contract, by the first octet.
 -- Assumes nothing.
 use borrow.Author.Rules.{rules}
-use Rattle.layout.specs.Format.{reason}
+use Rattle.layout.proofs.Format.{reason}
 use Rattle.read_sequence.specs.CaseLaws.{filled_optional, optional_none}
 use Rattle.read_status.proofs.statuses.reason_maybe.Goals as goal
 

@@ -1,8 +1,8 @@
 -- `read_status::statuses::revoked_body` meets its contract, by the time and what follows it.
 -- Assumes nothing.
 use borrow.Author.Rules.{rules}
-use Rattle.layout.specs.Kinds.{time, optional}
-use Rattle.layout.specs.Format.{reason, reason_starts, revoked_body}
+use Rattle.layout.proofs.ElementKinds.{time, optional}
+use Rattle.layout.proofs.Format.{reason, reason_starts, revoked_body}
 use Rattle.read_sequence.specs.CaseLaws.{field_wrong, field_end, field_after}
 use Rattle.read_status.proofs.statuses.revoked_body.Goals as goal
 

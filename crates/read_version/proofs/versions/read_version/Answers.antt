@@ -2,7 +2,7 @@
 -- Assumes nothing.
 use borrow.Author.Rules.{rules}
 use Rattle.codec.proofs.Sequence.{only}
-use Rattle.layout.specs.Format.{v1, version}
+use Rattle.layout.proofs.Format.{v1, version}
 use Rattle.read_sequence.specs.CaseLaws.{tagged_wrong, tagged_sum, tagged_end, tagged_closed}
 use Rattle.read_version.proofs.versions.read_version.Goals as goal
 

@@ -26,12 +26,13 @@ use Rattle.codec.specs.Option.{option_of, option_dec}
 use Rattle.codec.proofs.Starts.{starts_append}
 use Rattle.codec.proofs.StartsLaws.{form_starts}
 use Rattle.layout.specs.Names.{success}
-use Rattle.layout.specs.Kinds.{tag_02, tag_30, tag_a0}
-use Rattle.layout.specs.Format.{v1, version, signed_body, response_data, basic_body, basic_response, envelope}
-use Rattle.layout.specs.InnerLaws.{string_last}
-use Rattle.layout.specs.LimitsLaws.{success_limits}
-use Rattle.layout.specs.Read.{basic_type, unfit, reading}
-use Rattle.layout.specs.ReadLaws.{fits_64, type_oid}
+use Rattle.layout.proofs.ElementKinds.{tag_02, tag_30, tag_a0}
+use Rattle.layout.proofs.Format.{v1, version, signed_body, response_data, basic_body, basic_response, envelope}
+use Rattle.layout.proofs.InnerLaws.{string_last}
+use Rattle.layout.proofs.LimitsLaws.{success_limits}
+use Rattle.layout.specs.Read.{basic_type, unfit}
+use Rattle.layout.proofs.Read.{reading}
+use Rattle.layout.proofs.ReadLaws.{fits_64, type_oid}
 
 -- an element whose content is wrong at a place is wrong at that place after its header
 held : {A : Type 0} (t : ℕ) (d : List ℕ → Read A) (c r : List ℕ) (p : ℕ) → tag_ok t ≡ true → length c < 2 ^ 64 → d c ≡ broke p

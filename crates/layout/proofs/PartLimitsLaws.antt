@@ -16,9 +16,9 @@ use Rattle.codec.specs.Tree.{Tree, Upto}
 use Rattle.layout.specs.Reading.{Algorithm, CertId, Status, good, revoked, unknown, Extension}
 use Rattle.layout.specs.Limits.{TimeOk, OidOk, FreeOk, SequenceOk, HashOk, ReasonOk, AlgorithmOk, CertOk, RevokedOk, StatusOk, ExtensionOk, ExtensionsOk}
 use Rattle.layout.specs.Words.{between, reason_ok}
-use Rattle.layout.specs.Kinds.{free, free_sequence, time, serial, oid, hash}
+use Rattle.layout.proofs.ElementKinds.{free, free_sequence, time, serial, oid, hash}
 use Rattle.layout.specs.Names.{there}
-use Rattle.layout.specs.Format.{algorithm_body, algorithm_identifier, cert_body, cert_id, reason, good_status, unknown_status, revoked_body, revoked_status, cert_status, new_oid, critical, extension_body, extension_after, extension_list, extensions}
+use Rattle.layout.proofs.Format.{algorithm_body, algorithm_identifier, cert_body, cert_id, reason, good_status, unknown_status, revoked_body, revoked_status, cert_status, new_oid, critical, extension_body, extension_after, extension_list, extensions}
 
 -- ── where a value may be missing, and of each in a list ──
 pub option_limits : {A : Type 0} (f g : A → Type 0) → ((a : A) → f a ↔ g a) → (o : Option A) → OptionOk f o ↔ OptionOk g o

@@ -17,9 +17,9 @@ use Rattle.codec.specs.Mapped.{mapped_dec}
 use Rattle.codec.specs.Sequence.{end_dec, field_dec, only_dec}
 use Rattle.codec.specs.Branch.{branch_of, branch_dec}
 use Rattle.layout.specs.Names.{Envelope, failure, success, envelope_of}
-use Rattle.layout.specs.Kinds.{oid, enumerated}
+use Rattle.layout.proofs.ElementKinds.{oid, enumerated}
 use Rattle.layout.specs.Words as words
-use Rattle.layout.specs.Format.{response_bytes, envelope_body, envelope}
+use Rattle.layout.proofs.Format.{response_bytes, envelope_body, envelope}
 
 -- ── the last octets ──
 -- the octets end with these

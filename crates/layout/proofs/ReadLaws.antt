@@ -10,10 +10,11 @@ use Rattle.codec.specs.Codec.{Read, read, broke}
 use Rattle.layout.specs.Reading.{Basic, Reading, failed, basic}
 use Rattle.layout.specs.Names.{Envelope, failure, success}
 use Rattle.layout.specs.Limits.{OidOk, BasicOk}
-use Rattle.layout.specs.LimitsLaws.{basic_limits, success_limits}
-use Rattle.layout.specs.InnerLaws.{string_short}
-use Rattle.layout.specs.Format.{basic_response, envelope}
-use Rattle.layout.specs.Read.{basic_type, reads, other_type, unfit, inner_reading, envelope_reading, reading}
+use Rattle.layout.proofs.LimitsLaws.{basic_limits, success_limits}
+use Rattle.layout.proofs.InnerLaws.{string_short}
+use Rattle.layout.proofs.Format.{basic_response, envelope}
+use Rattle.layout.specs.Read.{basic_type, reads, other_type, unfit, inner_reading}
+use Rattle.layout.proofs.Read.{envelope_reading, reading}
 
 -- ── outcomes are apart ──
 unfit_reads : {X : Type 0} {p : ℕ} {r : Reading} → unfit p ≡ reads r → X

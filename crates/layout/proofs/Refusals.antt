@@ -3,10 +3,11 @@
 use Rattle.std.specs.Prelude.{ℕ, zero, suc, ◌*◌, ◌≡◌, refl, List, [], ◌∷◌, ◌++◌, replicate}
 use Rattle.codec.specs.Codec.{broke, got, bad}
 use Rattle.codec.specs.Tree.{Tree, node, stop, more}
-use Rattle.layout.specs.Kinds.{free, serial, hash}
-use Rattle.layout.specs.Format.{cert_status, extension_after, extensions, responder_id, version, signed_body, signature_bits}
-use Rattle.layout.specs.Read.{unfit, reading}
-use Rattle.layout.specs.Opened.{opened}
+use Rattle.layout.proofs.ElementKinds.{free, serial, hash}
+use Rattle.layout.proofs.Format.{cert_status, extension_after, extensions, responder_id, version, signed_body, signature_bits}
+use Rattle.layout.specs.Read.{unfit}
+use Rattle.layout.proofs.Read.{reading}
+use Rattle.layout.proofs.Opened.{opened}
 use Rattle.layout.specs.Examples.{first}
 
 -- ── the envelope ──

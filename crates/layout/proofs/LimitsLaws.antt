@@ -10,11 +10,11 @@ use Rattle.octets.specs.Octets.{Octets}
 use Rattle.codec.specs.Tree.{Tree}
 use Rattle.layout.specs.Reading.{Entry, Responder, by_name, by_key, Signed, Basic}
 use Rattle.layout.specs.Limits.{TimeOk, OidOk, SequenceOk, ExtensionsOk, EntryOk, KeyOk, ResponderOk, SignedOk, SignatureOk, CertificatesOk, BasicOk, FailureOk}
-use Rattle.layout.specs.PartLimitsLaws.{option_limits, all_limits, there_limits, between_limits, most_but, sequence_limits, oid_limits, time_limits, algorithm_limits, cert_limits, status_limits, extensions_limits}
+use Rattle.layout.proofs.PartLimitsLaws.{option_limits, all_limits, there_limits, between_limits, most_but, sequence_limits, oid_limits, time_limits, algorithm_limits, cert_limits, status_limits, extensions_limits}
 use Rattle.layout.specs.Words.{status_ok}
-use Rattle.layout.specs.Kinds.{free_sequence}
+use Rattle.layout.proofs.ElementKinds.{free_sequence}
 use Rattle.layout.specs.Names.{failure, success}
-use Rattle.layout.specs.Format.{extensions, next_update, single_body, single_response, name_id, key_id, responder_id, v1, version, responses, signed_fields, signed_body, response_data, signature_bits, certificates, basic_body, basic_response, response_bytes, envelope_body, envelope}
+use Rattle.layout.proofs.Format.{extensions, next_update, single_body, single_response, name_id, key_id, responder_id, v1, version, responses, signed_fields, signed_body, response_data, signature_bits, certificates, basic_body, basic_response, response_bytes, envelope_body, envelope}
 
 -- ── an entry ──
 pub entry_limits : (e : Entry) → single_response.ok e ↔ EntryOk e

@@ -17,11 +17,13 @@ use Rattle.codec.specs.Starts.{Starts, Other, Apart}
 use Rattle.codec.specs.Tree.{Tree}
 use Rattle.codec.proofs.StartsLaws.{tagged_starts, starts_other, field_apart}
 use Rattle.layout.specs.Reading.{Entry, Responder, by_name, by_key, Signed, Basic}
-use Rattle.layout.specs.Names.{responder, SignedFields, signed, basic, Envelope, enveloped}
+use Rattle.layout.specs.Names.{SignedFields, Envelope}
+use Rattle.layout.proofs.Names.{responder, signed, basic, enveloped}
 use Rattle.layout.specs.Words as words
-use Rattle.layout.specs.Kinds.{sequence, zero, one, two, string, enumerated, optional, free_sequence, time, oid, tag_02, tag_03, tag_a0, tag_a1, tag_a2}
-unfoldable pub use Rattle.layout.specs.EntryFormat.{algorithm_body, algorithm_identifier, cert_body, cert_id, good_status, unknown_status, reason, revoked_body, revoked_status, cert_status, new_oid, critical, extension_body, extension_after, extension_list, extensions, next_update, single_body, single_response}
-pub use Rattle.layout.specs.EntryFormat.{reason_starts, good_starts, unknown_starts, revoked_starts, revoked_other, bad_other, critical_starts, value_apart, extension_keyed, extensions_start, next_starts, extensions_apart}
+use Rattle.layout.proofs.Words as contents
+use Rattle.layout.proofs.ElementKinds.{sequence, zero, one, two, string, enumerated, optional, free_sequence, time, oid, tag_02, tag_03, tag_a0, tag_a1, tag_a2}
+unfoldable pub use Rattle.layout.proofs.EntryFormat.{algorithm_body, algorithm_identifier, cert_body, cert_id, good_status, unknown_status, reason, revoked_body, revoked_status, cert_status, new_oid, critical, extension_body, extension_after, extension_list, extensions, next_update, single_body, single_response}
+pub use Rattle.layout.proofs.EntryFormat.{reason_starts, good_starts, unknown_starts, revoked_starts, revoked_other, bad_other, critical_starts, value_apart, extension_keyed, extensions_start, next_starts, extensions_apart}
 
 -- ResponderID ::= CHOICE { by_name [1] Name, by_key [2] an OCTET STRING of 20 }
 unfoldable pub name_id : Element Tree
@@ -80,7 +82,7 @@ response_data = sequence signed_body
 
 -- BasicOCSPResponse ::= SEQUENCE { tbsResponseData, signatureAlgorithm, signature BIT STRING, certs [0] OPTIONAL }
 unfoldable pub signature_bits : Element (List ℕ)
-signature_bits = primitive 0x03 words.bits tag_03 (lit< tt)
+signature_bits = primitive 0x03 contents.bits tag_03 (lit< tt)
 
 unfoldable pub certificates : Element (List Tree)
 certificates = zero (only (sequence (many 0 8 free_sequence)))

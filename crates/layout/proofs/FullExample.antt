@@ -7,8 +7,9 @@ use Rattle.std.specs.Prelude.{ℕ, ◌≡◌, refl, true, false, List, [], ◌�
 use Rattle.std.proofs.Math.Option.{none, some}
 use Rattle.codec.specs.Tree.{prim, node, stop, more}
 use Rattle.layout.specs.Reading.{revoked, unknown, Entry, by_name, Basic, basic}
-use Rattle.layout.specs.Read.{der, reads, reading}
-use Rattle.layout.specs.Opened.{opened}
+use Rattle.layout.specs.Read.{reads}
+use Rattle.layout.proofs.Read.{der, reading}
+use Rattle.layout.proofs.Opened.{opened}
 use Rattle.layout.specs.Examples.{type_element, first, next, hashes, signature, signer}
 use Rattle.layout.specs.Sha1.{sha1}
 

@@ -19,6 +19,7 @@ use Rattle.codec.specs.Tree.{Tree}
 use Rattle.codec.proofs.TreeRead.{tree}
 use Rattle.codec.proofs.TreeTagged.{tree_tagged}
 use Rattle.layout.specs.Words as words
+use Rattle.layout.proofs.Words as contents
 
 -- ── the tags are tags ──
 pub tag_01 : tag_ok 0x01 ≡ true
@@ -100,10 +101,10 @@ unfoldable pub free_sequence : Element Tree
 free_sequence = tree_tagged 0x30 16
 
 unfoldable pub time : Element ℕ
-time = primitive 0x18 words.time_content tag_18 (lit< tt)
+time = primitive 0x18 contents.time_content tag_18 (lit< tt)
 
 unfoldable pub serial : Element ℕ
-serial = primitive 0x02 words.serial_content tag_02 (lit< tt)
+serial = primitive 0x02 contents.serial_content tag_02 (lit< tt)
 
 unfoldable pub oid : Element (List ℕ)
 oid = primitive 0x06 words.oid_content tag_06 (lit< tt)
@@ -114,7 +115,7 @@ hash = string (words.between 1 64)
 
 -- an ENUMERATED of one octet that passes a test
 abbrev pub enumerated : (ℕ → Bool) → Element ℕ
-enumerated test = primitive 0x0a (words.single test) tag_0a (lit< tt)
+enumerated test = primitive 0x0a (contents.single test) tag_0a (lit< tt)
 
 -- maybe an element with this tag, and nothing more
 abbrev pub optional : {A : Type 0} (t : ℕ) (e : Element A) → Starts t e → Whole (Option A)

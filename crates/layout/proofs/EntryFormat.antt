@@ -21,9 +21,10 @@ use Rattle.codec.specs.Starts.{Starts, Other, Apart}
 use Rattle.codec.proofs.StartsLaws.{tagged_starts, primitive_starts, starts_other, only_apart, end_apart, option_apart, choice_other}
 use Rattle.content.specs.Oid.{oid_ok}
 use Rattle.layout.specs.Reading.{Algorithm, CertId, Status, Extension, Entry}
-use Rattle.layout.specs.Names.{algorithm, cert, status, extension, extension_of, extension_parts, extension_named, extension_parted, entry}
+use Rattle.layout.specs.Names.{algorithm, cert, extension_of, extension_parts}
+use Rattle.layout.proofs.Names.{status, extension, extension_named, extension_parted, entry}
 use Rattle.layout.specs.Words as words
-use Rattle.layout.specs.Kinds.{sequence, zero, one, string, enumerated, optional, free, time, serial, oid, hash, tag_01, tag_04, tag_06, tag_30, tag_80, tag_82, tag_a0, tag_a1}
+use Rattle.layout.proofs.ElementKinds.{sequence, zero, one, string, enumerated, optional, free, time, serial, oid, hash, tag_01, tag_04, tag_06, tag_30, tag_80, tag_82, tag_a0, tag_a1}
 
 -- AlgorithmIdentifier ::= SEQUENCE { algorithm OBJECT IDENTIFIER, parameters ANY OPTIONAL }
 unfoldable pub algorithm_body : Whole Algorithm

@@ -9,12 +9,13 @@ use Rattle.octets.specs.SameLaws.{same_refl}
 use Rattle.codec.specs.Codec.{read}
 use Rattle.layout.specs.Reading.{Reading, failed, basic}
 use Rattle.layout.specs.Names.{failure, success}
-use Rattle.layout.specs.Format.{basic_response, envelope}
+use Rattle.layout.proofs.Format.{basic_response, envelope}
 use Rattle.layout.specs.Limits.{Within}
-use Rattle.layout.specs.LimitsLaws.{basic_limits, failure_limits, success_limits}
-use Rattle.layout.specs.InnerLaws.{string_last, string_read}
-use Rattle.layout.specs.Read.{basic_type, der, reads, unfit, reading}
-use Rattle.layout.specs.ReadLaws.{From, by_status, by_string, reads_from, Wrong, in_envelope, in_string, unfit_from, fits_64, string_fits, string_ok}
+use Rattle.layout.proofs.LimitsLaws.{basic_limits, failure_limits, success_limits}
+use Rattle.layout.proofs.InnerLaws.{string_last, string_read}
+use Rattle.layout.specs.Read.{basic_type, reads, unfit}
+use Rattle.layout.proofs.Read.{der, reading}
+use Rattle.layout.proofs.ReadLaws.{From, by_status, by_string, reads_from, Wrong, in_envelope, in_string, unfit_from, fits_64, string_fits, string_ok}
 
 -- what reads as a reading is its DER form, and the reading is within the limits
 pub sound : (s : List ℕ) (r : Reading) → Octets s → reading s ≡ reads r → Within r × (s ≡ der r)

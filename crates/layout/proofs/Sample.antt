@@ -8,8 +8,9 @@ use Rattle.std.proofs.Math.Option.{none, some}
 use Rattle.calendar.specs.Examples.{text}
 use Rattle.codec.specs.Tree.{Tree, prim, node, stop, more}
 use Rattle.layout.specs.Reading.{good, by_name, Basic, basic}
-use Rattle.layout.specs.Read.{der, reads, reading}
-use Rattle.layout.specs.Opened.{opened}
+use Rattle.layout.specs.Read.{reads}
+use Rattle.layout.proofs.Read.{der, reading}
+use Rattle.layout.proofs.Opened.{opened}
 use Rattle.layout.specs.Examples.{type_element}
 use Rattle.layout.specs.Sha1.{sha1}
 
