@@ -1,8 +1,8 @@
 -- The layout of an entry, as codecs, in the order and with the tags of source document 002, section
 -- 4.2.1, and with document 01's limits at each line.
--- algorithm_identifier, cert_id, certStatus, extensions, single_response. What they read is in Reading;
--- elements by their tags are in Kinds; how the fields get their names is in Names. The response around
--- the entries is in Format, which passes these names on.
+-- algorithm_identifier, cert_id, certStatus, extensions, single_body. What they read is in Reading;
+-- elements by their tags are in ElementKinds; how the fields get their names is in Names; one extension is in
+-- ExtensionFormat. The response around the entries is in Format, which passes these names on.
 -- Assumes nothing.
 use Rattle.std.specs.Prelude.{ℕ, refl, List}
 use Rattle.std.proofs.Math.Option.{Option}
@@ -24,6 +24,8 @@ use Rattle.layout.specs.Reading.{Algorithm, CertId, Status, Extension, Entry}
 use Rattle.layout.specs.Names.{algorithm, cert, extension_of, extension_parts}
 use Rattle.layout.proofs.Names.{status, extension, extension_named, extension_parted, entry}
 use Rattle.layout.specs.Words as words
+unfoldable pub use Rattle.layout.proofs.ExtensionFormat.{new_oid, critical, extension_body, extension_after}
+pub use Rattle.layout.proofs.ExtensionFormat.{critical_starts, value_apart, extension_keyed}
 use Rattle.layout.proofs.ElementKinds.{sequence, zero, one, string, enumerated, optional, free, time, serial, oid, hash, tag_01, tag_04, tag_06, tag_30, tag_80, tag_82, tag_a0, tag_a1}
 
 -- AlgorithmIdentifier ::= SEQUENCE { algorithm OBJECT IDENTIFIER, parameters ANY OPTIONAL }
@@ -85,37 +87,6 @@ unfoldable pub cert_status : Element Status
 cert_status =
     status (choice 0x80 good_status (choice 0x82 unknown_status revoked_status unknown_starts revoked_other) good_starts bad_other)
 
--- Extension ::= SEQUENCE { extnID, critical BOOLEAN DEFAULT FALSE, extnValue OCTET STRING }
-unfoldable pub new_oid : List (List ℕ) → Element (List ℕ)
-new_oid seen = primitive 0x06 (new_content oid_ok seen) tag_06 (lit< tt)
-
-unfoldable pub critical : Element (Unit {0})
-critical = primitive 0x01 words.yes tag_01 (lit< tt)
-
-pub critical_starts : Starts 0x01 critical
-unfolding critical
-critical_starts = primitive_starts 0x01 words.yes tag_01 (lit< tt)
-
-pub value_apart : Apart 0x01 (only (string words.anything))
-value_apart =
-    only_apart 0x01 (string words.anything)
-    (starts_other 0x01 0x04 (string words.anything) refl (primitive_starts 0x04 (octets_content words.anything) tag_04 (lit< tt)))
-
-unfoldable pub extension_body : List (List ℕ) → Whole Extension
-extension_body seen = extension (field (new_oid seen) (option 0x01 critical (only (string words.anything)) critical_starts value_apart))
-
-unfoldable pub extension_after : List (List ℕ) → Element Extension
-extension_after seen = sequence (extension_body seen)
-
-pub extension_keyed : KeyedElement (λ (e : Extension). e.oid) extension_after
-unfolding extension_after extension_body new_oid
-extension_keyed =
-    keyed_tagged (λ e. e.oid) 0x30 extension_body tag_30 (lit< tt)
-    (keyed_mapped (λ x. x.0) extension_of extension_parts extension_named extension_parted
-    (λ seen. field (new_oid seen) (option 0x01 critical (only (string words.anything)) critical_starts value_apart))
-    (keyed_field (λ c. c) new_oid (option 0x01 critical (only (string words.anything)) critical_starts value_apart)
-    (keyed_primitive (λ c. c) 0x06 (new_content oid_ok) tag_06 (lit< tt) (keyed_content oid_ok))))
-
 -- Extensions ::= SEQUENCE OF Extension, 1 to 16, no OID twice
 unfoldable pub extension_list : Whole (List Extension)
 extension_list = each 1 16 (λ e. e.oid) extension_after extension_keyed
@@ -144,6 +115,3 @@ unfoldable pub single_body : Whole Entry
 single_body =
     entry (field cert_id (field cert_status (field time
     (option 0xa0 next_update (optional 0xa1 extensions extensions_start) next_starts extensions_apart))))
-
-unfoldable pub single_response : Element Entry
-single_response = sequence single_body

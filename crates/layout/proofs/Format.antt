@@ -1,9 +1,9 @@
 -- The layout of a response, as codecs, in the order and with the tags of source document 002, section
 -- 4.2.1, and with document 01's limits at each line. One field is not DER: the version may be written,
 -- though it has a default (document 02, C-12).
--- algorithm_identifier, cert_id, certStatus, extensions, single_response (in EntryFormat); responder_id,
+-- algorithm_identifier, cert_id, certStatus, extensions, single_body (in EntryFormat); single_response, responder_id,
 -- version, signed_fields, response_data, basic_response, envelope. What they read is in Reading; elements
--- by their tags are in Kinds; how the fields get their names is in Names.
+-- by their tags are in ElementKinds; how the fields get their names is in Names.
 -- Assumes nothing.
 use Rattle.std.specs.Prelude.{ℕ, refl, List}
 use Rattle.std.proofs.Common.{lit<}
@@ -22,8 +22,12 @@ use Rattle.layout.proofs.Names.{responder, signed, basic, enveloped}
 use Rattle.layout.specs.Words as words
 use Rattle.layout.proofs.Words as contents
 use Rattle.layout.proofs.ElementKinds.{sequence, zero, one, two, string, enumerated, optional, free_sequence, time, oid, tag_02, tag_03, tag_a0, tag_a1, tag_a2}
-unfoldable pub use Rattle.layout.proofs.EntryFormat.{algorithm_body, algorithm_identifier, cert_body, cert_id, good_status, unknown_status, reason, revoked_body, revoked_status, cert_status, new_oid, critical, extension_body, extension_after, extension_list, extensions, next_update, single_body, single_response}
+unfoldable pub use Rattle.layout.proofs.EntryFormat.{algorithm_body, algorithm_identifier, cert_body, cert_id, good_status, unknown_status, reason, revoked_body, revoked_status, cert_status, new_oid, critical, extension_body, extension_after, extension_list, extensions, next_update, single_body}
 pub use Rattle.layout.proofs.EntryFormat.{reason_starts, good_starts, unknown_starts, revoked_starts, revoked_other, bad_other, critical_starts, value_apart, extension_keyed, extensions_start, next_starts, extensions_apart}
+
+-- SingleResponse ::= SEQUENCE { .. }, by what stands in it
+unfoldable pub single_response : Element Entry
+single_response = sequence single_body
 
 -- ResponderID ::= CHOICE { by_name [1] Name, by_key [2] an OCTET STRING of 20 }
 unfoldable pub name_id : Element Tree

@@ -1,3 +1,4 @@
+pub mod ExtensionFormat
 pub mod EntryFormat
 pub mod Examples
 pub mod Format

@@ -11,7 +11,7 @@ use Rattle.codec.proofs.Sequence.{end}
 use Rattle.codec.proofs.Mapped.{mapped, mapped_ok, mapped_element}
 use Rattle.codec.specs.Tree.{Tree}
 use Rattle.layout.specs.Reading.{Algorithm, CertId, Status, good, revoked, unknown, Extension, Entry, Responder, by_name, by_key, Signed, Basic}
-use Rattle.layout.specs.Names.{Envelope, EnvelopeParts, ExtensionParts, SignedFields, SignedParts, StatusParts, algorithm, cert, envelope_of, envelope_parts, extension_of, extension_parts, failure, is_there, responder_of, responder_parts, status_from, status_parts, succeeds, success, there}
+use Rattle.layout.specs.Names.{Envelope, EnvelopeParts, ExtensionParts, SignedParts, StatusParts, algorithm, cert, envelope_of, envelope_parts, extension_of, extension_parts, failure, fields_of, is_there, responder_of, responder_parts, signed_from, signed_parts, status_from, status_parts, succeeds, success, there}
 
 pub status_named : (s : Status) → status_from (status_parts s) ≡ s
 status_named good = refl
@@ -58,16 +58,6 @@ responder_parted (inr k) = refl
 
 abbrev pub responder : Element (Tree ⊎ List ℕ) → Element Responder
 responder e = mapped_element responder_of responder_parts responder_named responder_parted e
-
-abbrev pub fields_of : Signed → SignedFields
-fields_of s = (s.responder, (s.produced_at, (s.entries, s.extensions)))
-
-abbrev pub signed_from : SignedParts → Signed
-signed_from x =
-    record { versioned = is_there x.0; responder = x.1.0; produced_at = x.1.1.0; entries = x.1.1.1.0; extensions = x.1.1.1.1 }
-
-abbrev pub signed_parts : Signed → SignedParts
-signed_parts s = (there s.versioned, fields_of s)
 
 pub signed_named : (s : Signed) → signed_from (signed_parts s) ≡ s
 signed_named s = λ i. record {

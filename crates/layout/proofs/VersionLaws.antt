@@ -14,7 +14,7 @@ use Rattle.codec.proofs.CodecLaws.{got_size}
 use Rattle.codec.specs.Starts.{starts_with}
 use Rattle.codec.proofs.Starts.{starts_append}
 use Rattle.layout.specs.Reading.{Signed, with_version}
-use Rattle.layout.proofs.Names.{fields_of}
+use Rattle.layout.specs.Names.{fields_of}
 use Rattle.layout.proofs.Format.{v1, version, version_starts, fields_apart, signed_fields, signed_body}
 use Rattle.layout.specs.VersionLaws.{version_octets}
 

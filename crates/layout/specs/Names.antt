@@ -8,7 +8,7 @@ use Rattle.std.proofs.Math.Option.{Option, none, some}
 use Rattle.codec.specs.Codec.{Whole}
 use Rattle.codec.proofs.Mapped.{mapped}
 use Rattle.codec.specs.Tree.{Tree}
-use Rattle.layout.specs.Reading.{Algorithm, CertId, Status, good, revoked, unknown, Extension, Entry, Responder, by_name, by_key}
+use Rattle.layout.specs.Reading.{Algorithm, CertId, Status, good, revoked, unknown, Extension, Entry, Responder, by_name, by_key, Signed}
 
 abbrev pub algorithm : Whole (List ℕ × Option Tree) → Whole Algorithm
 algorithm w = mapped (λ x. record { oid = x.0; parameters = x.1 }) (λ a. (a.oid, a.parameters)) (λ b. refl) (λ a. refl) w
@@ -65,6 +65,16 @@ SignedFields = Responder × (ℕ × (List Entry × Option (List Extension)))
 -- maybe the version, then the fields
 abbrev pub SignedParts : Type 0
 SignedParts = Option (Unit {0}) × SignedFields
+
+abbrev pub fields_of : Signed → SignedFields
+fields_of s = (s.responder, (s.produced_at, (s.entries, s.extensions)))
+
+abbrev pub signed_from : SignedParts → Signed
+signed_from x =
+    record { versioned = is_there x.0; responder = x.1.0; produced_at = x.1.1.0; entries = x.1.1.1.0; extensions = x.1.1.1.1 }
+
+abbrev pub signed_parts : Signed → SignedParts
+signed_parts s = (there s.versioned, fields_of s)
 
 -- an error response's status, or a successful one's type and string
 pub data Envelope : Type 0 where

@@ -12,7 +12,7 @@ use Rattle.codec.specs.Option.{option_dec}
 use Rattle.layout.specs.Words.{time_read, serial_read, single_read, between, anything, reason_ok}
 use Rattle.layout.specs.Names.{extension_of}
 use Rattle.layout.proofs.ElementKinds as kinds
-use Rattle.layout.specs.Format as format
+use Rattle.layout.proofs.Format as format
 use Rattle.faults.specs.Description.{nothing, perhaps}
 use Rattle.faults.specs.ContentLaws.{octets_finds, fixed_finds}
 use Rattle.faults.specs.Placed.{PlacedHead, Placed}

@@ -24,7 +24,7 @@ use Rattle.codec.proofs.ViewLaws.{step_taken, step_bad}
 use Rattle.codec.specs.declared.Step.{Step}
 use Rattle.codec.specs.declared.Step.TheVariants.{Taken, Bad}
 use Rattle.layout.specs.Names.{SignedFields}
-use Rattle.layout.proofs.Names.{signed_from}
+use Rattle.layout.specs.Names.{signed_from}
 use Rattle.layout.proofs.Format.{version, signed_fields, signed_body}
 use Rattle.read_content.specs.ExpectLaws.{never}
 use Rattle.read_basic.specs.Views.{inside_at, inside_fields, version_step, inside_signed}

@@ -17,7 +17,7 @@ use Rattle.codec.specs.declared.Step.{Step}
 use Rattle.codec.specs.declared.Step.TheVariants.{Taken}
 use Rattle.layout.specs.Reading.{Algorithm, Extension, Entry, Signed}
 use Rattle.layout.specs.Names.{there, SignedFields}
-use Rattle.layout.proofs.Names.{fields_of}
+use Rattle.layout.specs.Names.{fields_of}
 use Rattle.layout.proofs.ElementKinds.{optional, time}
 use Rattle.layout.proofs.Format.{single_response, responder_id, version, responses, algorithm_identifier, signature_bits, certificates, certificates_start}
 use Rattle.read_ending.specs.Ends.{extensions_on}

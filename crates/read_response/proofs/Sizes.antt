@@ -15,7 +15,7 @@ use Rattle.codec.specs.Option.{option_enc}
 use Rattle.codec.specs.Many.{forms}
 use Rattle.codec.specs.Tree.{Tree}
 use Rattle.layout.specs.Reading.{Algorithm, Entry, Signed, Basic}
-use Rattle.layout.proofs.Names.{fields_of}
+use Rattle.layout.specs.Names.{fields_of}
 use Rattle.layout.proofs.Format.{single_response, responses, extensions, signed_fields, signed_body, algorithm_identifier, signature_bits, certificates, basic_body}
 use Rattle.read_response.specs.Parts.{span, parts_from, responses_size, entries_size, signed_size, algorithm_size}
 use Rattle.read_response.specs.Placed.{front_at, tailed}

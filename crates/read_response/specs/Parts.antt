@@ -8,7 +8,7 @@ use Rattle.std.specs.Prelude.{ℕ, ◌+◌, ◌-◌, cond, List, ltb, length}
 use Rattle.codec.specs.Option.{option_enc}
 use Rattle.codec.specs.Many.{forms}
 use Rattle.layout.specs.Reading.{Signed, Basic, failed, basic}
-use Rattle.layout.proofs.Names.{fields_of}
+use Rattle.layout.specs.Names.{fields_of}
 use Rattle.layout.proofs.Format.{algorithm_identifier, extensions, single_response, responses, signed_fields, response_data, signature_bits, certificates, basic_body}
 use Rattle.layout.specs.Read.{Outcome, reads, other_type, unfit}
 use Rattle.layout.proofs.Read.{reading}
