@@ -30,13 +30,13 @@ use Rattle.slip.specs.Slip.{card_octets, body_of, slip_of, card_fits as cardKept
 use Rattle.slip.specs.CardOctetsLaws.{card_length, card_read}
 use Rattle.slip.specs.SlipLaws.{slip_length}
 use Rattle.cache_room.specs.Room.{held_at}
-use Rattle.cache_room.specs.FirstLaws.{held_card}
+use Rattle.cache_room.proofs.FirstLaws.{held_card}
 use Rattle.cache_rules.specs.Place.{places, card_at, says_at, is_said, this_of, next_of}
-use Rattle.cache_rules.specs.FitLaws.{full_said}
+use Rattle.cache_rules.proofs.FitLaws.{full_said}
 use Rattle.cache_rules.specs.Cache.{room_of, place_in, is_cache, told, not_held, missed_at, said_at, ask_of}
-use Rattle.cache_rules.specs.CacheLaws.{cache_exactly, room_length, place_octets, place_fit}
-use Rattle.cache_rules.specs.AskLaws.{ask_19, ask_clock, ask_card, ask_none, ask_held}
-use Rattle.cache_rules.specs.HeldLaws.{card_nonempty}
+use Rattle.cache_rules.proofs.CacheLaws.{cache_exactly, room_length, place_octets, place_fit}
+use Rattle.cache_rules.proofs.AskLaws.{ask_19, ask_clock, ask_card, ask_none, ask_held}
+use Rattle.cache_rules.proofs.HeldLaws.{card_nonempty}
 use Rattle.cache_place.specs.Times.{this_at, next_at}
 use Rattle.cache_place.specs.TimesLaws.{place_times}
 use Rattle.cache_places.specs.Evenly.{evenly}

@@ -14,17 +14,17 @@ use Rattle.rules.specs.Signer.{is_signer, in_response, in_entry, strange_in}
 use Rattle.rules.specs.Order.{lacks_mark}
 use Rattle.rules.specs.Ruling.{said, answer_of}
 use Rattle.rules.specs.Accepted.{InRange, KnownInResponse, KnownInEntry, Accepted}
-use Rattle.rules.specs.AcceptedLaws.{range_exactly, signer_exactly, marks_exactly, strange_exactly, response_exactly, entry_exactly}
-use Rattle.rules.specs.TimesLaws.{missed_15, missed_16, times_exactly}
-use Rattle.rules.specs.RowLaws.{row_15, row_16, row_none}
-use Rattle.rules.specs.RefusalLaws.{out_of_range}
+use Rattle.rules.proofs.AcceptedLaws.{range_exactly, signer_exactly, marks_exactly, strange_exactly, response_exactly, entry_exactly}
+use Rattle.rules.proofs.TimesLaws.{missed_15, missed_16, times_exactly}
+use Rattle.rules.proofs.RowLaws.{row_15, row_16, row_none}
+use Rattle.rules.proofs.RefusalLaws.{out_of_range}
 use Rattle.freshness.specs.declared.Clock.{Clock}
 use Rattle.cache_rules.specs.Place.{this_of, next_of}
 use Rattle.freshness.specs.Clock.{clock_ok}
 use Rattle.cache_rules.specs.Cache.{said_at}
 use Rattle.freshness.specs.ClockLaws.{clock_exactly}
 use Rattle.cache_check.specs.Later.{asked_at}
-use Rattle.cache_rules.specs.AskLaws.{said_early, said_late, said_within}
+use Rattle.cache_rules.proofs.AskLaws.{said_early, said_late, said_within}
 
 said_this : (x : Status) (this next : ℕ) → this_of (said x this next) ≡ this
 said_this good this next = refl

@@ -17,18 +17,18 @@ use Rattle.layout.specs.Reading.{Entry, Basic}
 use Rattle.rules.specs.declared.Question.{Question}
 use Rattle.rules.specs.Ruling.{said, answer_of}
 use Rattle.rules.specs.Accepted.{Accepted, NoRefusal}
-use Rattle.rules.specs.RulingLaws.{accepted_exactly, accepted_answer}
+use Rattle.rules.proofs.RulingLaws.{accepted_exactly, accepted_answer}
 use Rattle.freshness.specs.declared.Clock.{Clock}
 use Rattle.freshness.specs.Clock.{clock_ok}
 use Rattle.cache_rules.specs.Place.{places, card_at, says_at, is_said, WholeCard}
-use Rattle.cache_rules.specs.FitLaws.{held_card}
+use Rattle.cache_rules.proofs.FitLaws.{held_card}
 use Rattle.cache_rules.specs.Cache.{place_in, is_cache, told, said_at, ask_of}
-use Rattle.cache_rules.specs.CacheLaws.{place_octets}
-use Rattle.cache_rules.specs.AskLaws as asking
-use Rattle.cache_rules.specs.HeldLaws as held
+use Rattle.cache_rules.proofs.CacheLaws.{place_octets}
+use Rattle.cache_rules.proofs.AskLaws as asking
+use Rattle.cache_rules.proofs.HeldLaws as held
 use Rattle.cache_rules.specs.Has.{Has}
-use Rattle.cache_rules.specs.OtherCardLaws.{place_own}
-use Rattle.cache_rules.specs.OutcomeTheorem.{outcome}
+use Rattle.cache_rules.proofs.OtherCardLaws.{place_own}
+use Rattle.cache_rules.proofs.OutcomeTheorem.{outcome}
 use Rattle.cache_check.specs.Later.{asked_at, AsTheCheck}
 use Rattle.cache_check.specs.CheckLaws.{answer_outside, answer_inside}
 

@@ -10,12 +10,12 @@ use Rattle.answer.specs.Verdict.{without_place, refused}
 use Rattle.slip.specs.Slip.{slip_of}
 use Rattle.slip.specs.SlipLaws.{read_written}
 use Rattle.rules.specs.Ruling.{answer_of}
-use Rattle.rules.specs.RulingLaws.{accepted_placeless}
+use Rattle.rules.proofs.RulingLaws.{accepted_placeless}
 use Rattle.rules.specs.Accepted.{NoRefusal}
 use Rattle.desk_question.specs.Asked.{question_in, name_in, question_ok, asked}
-use Rattle.desk_question.specs.AskedLaws.{asked_kept, asked_broken}
-use Rattle.desk_question.specs.FitsLaws.{fits_slip}
-use Rattle.desk_question.specs.SizeLaws.{asked_sized}
+use Rattle.desk_question.proofs.AskedLaws.{asked_kept, asked_broken}
+use Rattle.desk_question.proofs.FitsLaws.{fits_slip}
+use Rattle.desk_question.proofs.SizeLaws.{asked_sized}
 use Rattle.cache_rules.specs.Place.{says_of}
 
 -- an answer that is no refusal is the check's

@@ -12,19 +12,19 @@ use Rattle.slip.specs.SlipLaws.{read_written}
 use Rattle.rules.specs.declared.Question.{Question}
 use Rattle.rules.specs.Ruling.{answer_of}
 use Rattle.rules.specs.Accepted.{NoRefusal}
-use Rattle.rules.specs.RulingLaws.{accepted_exactly, accepted_answer, accepted_placeless}
-use Rattle.desk_question.specs.FitsLaws.{answer_fits}
+use Rattle.rules.proofs.RulingLaws.{accepted_exactly, accepted_answer, accepted_placeless}
+use Rattle.desk_question.proofs.FitsLaws.{answer_fits}
 use Rattle.freshness.specs.declared.Clock.{Clock}
 use Rattle.cache_rules.specs.declared.Filed.TheVariants.{Count, Refused}
 use Rattle.cache_rules.specs.Place.{says_at, is_said, place_of, this_of, says_of, WholeCard}
 use Rattle.cache_rules.specs.Cache.{place_in, takes, filing_refusal, filed_of, buffer_of}
 use Rattle.cache_rules.specs.Has.{Has}
-use Rattle.cache_rules.specs.RefusalLaws.{count_accepted}
-use Rattle.cache_rules.specs.FilingLaws.{was_cache, takes_one}
-use Rattle.cache_rules.specs.AfterLaws.{after_octets, place_new}
-use Rattle.cache_rules.specs.HeldLaws.{somewhere}
-use Rattle.cache_rules.specs.RefusalTheorem.{refused_17}
-use Rattle.cache_rules.specs.FileTheorem.{kept, filed_same, filed_later, new_says}
+use Rattle.cache_rules.proofs.RefusalLaws.{count_accepted}
+use Rattle.cache_rules.proofs.FilingLaws.{was_cache, takes_one}
+use Rattle.cache_rules.proofs.AfterLaws.{after_octets, place_new}
+use Rattle.cache_rules.proofs.HeldLaws.{somewhere}
+use Rattle.cache_rules.proofs.RefusalTheorem.{refused_17}
+use Rattle.cache_rules.proofs.FileTheorem.{kept, filed_same, filed_later, new_says}
 use Rattle.cache_rules.specs.Many.{after_all, AllOctets, ForOthers}
 use Rattle.cache_check.specs.Later.{AsTheCheck, TakenStale}
 use Rattle.cache_check.specs.CheckTheorem.{no_refusal_said, as_the_check}

@@ -12,16 +12,16 @@ use Rattle.answer.specs.Verdict.{refused}
 use Rattle.rules.specs.declared.Question.{Question}
 use Rattle.rules.specs.Ruling.{answer_of}
 use Rattle.rules.specs.Accepted.{NoRefusal}
-use Rattle.rules.specs.RulingLaws.{accepted_exactly, accepted_answer}
-use Rattle.rules.specs.RefusalLaws.{refusal_placeless}
+use Rattle.rules.proofs.RulingLaws.{accepted_exactly, accepted_answer}
+use Rattle.rules.proofs.RefusalLaws.{refusal_placeless}
 use Rattle.freshness.specs.declared.Clock.{Clock}
 use Rattle.cache_rules.specs.Place.{places, slip_in, says_at, WholeCard}
-use Rattle.cache_rules.specs.PlaceLaws.{read_sized}
+use Rattle.cache_rules.proofs.PlaceLaws.{read_sized}
 use Rattle.cache_rules.specs.Cache.{place_in, is_cache, told}
-use Rattle.cache_rules.specs.AskLaws.{told_verdict, told_same}
-use Rattle.cache_rules.specs.AskTheorem.{not_held_exactly}
+use Rattle.cache_rules.proofs.AskLaws.{told_verdict, told_same}
+use Rattle.cache_rules.proofs.AskTheorem.{not_held_exactly}
 use Rattle.cache_rules.specs.Many.{after_all, AllOctets, ForOthers}
-use Rattle.cache_rules.specs.ManyTheorem.{all_octets, all_kept, since}
+use Rattle.cache_rules.proofs.ManyTheorem.{all_octets, all_kept, since}
 use Rattle.cache_check.specs.Later.{asked_at, AsTheCheck, TakenStale}
 use Rattle.cache_check.specs.CheckTheorem.{as_the_check}
 

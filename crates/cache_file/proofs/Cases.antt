@@ -23,10 +23,10 @@ use Rattle.cache_room.specs.Room.{held_at, count, free_at}
 use Rattle.cache_rules.specs.declared.Filed.{Filed}
 use Rattle.cache_rules.specs.declared.Filed.TheVariants.{Count, Refused}
 use Rattle.cache_rules.specs.Place.{card_at, is_said, place_of, says_of}
-use Rattle.cache_rules.specs.PlaceLaws.{slip_most}
+use Rattle.cache_rules.proofs.PlaceLaws.{slip_most}
 use Rattle.cache_rules.specs.Cache.{is_cache, filing_refusal, filed_of, buffer_of}
-use Rattle.cache_rules.specs.CacheLaws.{cache_exactly}
-use Rattle.cache_rules.specs.RefusalLaws.{refusal_exactly, filed_refused, refused_number}
+use Rattle.cache_rules.proofs.CacheLaws.{cache_exactly}
+use Rattle.cache_rules.proofs.RefusalLaws.{refusal_exactly, filed_refused, refused_number}
 use Rattle.cache_place.specs.Times.{this_at, late_at}
 use Rattle.cache_places.specs.Evenly.{evenly}
 use Rattle.cache_file.specs.Put.{held_filed, buffer_held, new_at, new_filed, new_in}

@@ -15,17 +15,17 @@ use Rattle.freshness.specs.declared.Clock.{Clock}
 use Rattle.freshness.specs.Clock.{clock_ok}
 use Rattle.slip.specs.Slip.{card_octets}
 use Rattle.cache_room.specs.Room.{is_empty, held_at, count, is_free, free_at, kept_in}
-use Rattle.cache_room.specs.FirstLaws.{first_same, held_card}
-use Rattle.cache_room.specs.TakenLaws.{taken_held, taken_free}
+use Rattle.cache_room.proofs.FirstLaws.{first_same, held_card}
+use Rattle.cache_room.proofs.TakenLaws.{taken_held, taken_free}
 use Rattle.cache_rules.specs.declared.Filed.TheVariants.{Count, Refused}
 use Rattle.cache_rules.specs.Place.{width, places, card_at, says_at, is_said, place_of, this_of, is_stale, wins_of, says_of}
-use Rattle.cache_rules.specs.PlaceLaws.{place_card, card_there, card_some}
-use Rattle.cache_rules.specs.FitLaws.{full_said}
+use Rattle.cache_rules.proofs.PlaceLaws.{place_card, card_there, card_some}
+use Rattle.cache_rules.proofs.FitLaws.{full_said}
 use Rattle.cache_rules.specs.Cache.{room_of, place_in, is_cache, takes, filing_refusal, filed_of, buffer_of}
-use Rattle.cache_rules.specs.CacheLaws.{cache_exactly, room_length, place_octets, place_fit}
-use Rattle.cache_rules.specs.RefusalLaws.{refusal_exactly, filed_refused, refused_number}
-use Rattle.cache_rules.specs.FilingLaws.{after_cache, after_put, filed_count_lem}
-use Rattle.cache_rules.specs.AfterLaws.{new_kept, later_kept, nothing_written}
+use Rattle.cache_rules.proofs.CacheLaws.{cache_exactly, room_length, place_octets, place_fit}
+use Rattle.cache_rules.proofs.RefusalLaws.{refusal_exactly, filed_refused, refused_number}
+use Rattle.cache_rules.proofs.FilingLaws.{after_cache, after_put, filed_count_lem}
+use Rattle.cache_rules.proofs.AfterLaws.{new_kept, later_kept, nothing_written}
 use Rattle.cache_place.specs.Times.{this_at, late_at}
 use Rattle.cache_place.specs.TimesLaws.{slip_times, place_times, late_stale}
 use Rattle.cache_places.specs.Evenly.{evenly}

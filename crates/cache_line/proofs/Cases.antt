@@ -18,7 +18,7 @@ use Rattle.freshness.specs.declared.Clock.{Clock}
 use Rattle.cache_rules.specs.declared.Filed.{Filed}
 use Rattle.cache_rules.specs.declared.Filed.TheVariants as filed
 use Rattle.cache_rules.specs.Cache.{is_cache, filed_of, buffer_of}
-use Rattle.cache_rules.specs.RefusalLaws.{refusal_exactly, refused_number}
+use Rattle.cache_rules.proofs.RefusalLaws.{refusal_exactly, refused_number}
 use Rattle.cache_ask.specs.declared.Sought.TheVariants.{Refused}
 use Rattle.cache_line.specs.Reply.{numbered, accepted_reply, filed_reply, filed_cache, reply_with, cache_with}
 use Rattle.cache_line.specs.Wrote.{Wrote, copy_after}

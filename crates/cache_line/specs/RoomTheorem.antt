@@ -16,9 +16,9 @@ use Rattle.cache_rules.specs.Examples.{cache_computes}
 use Rattle.cache_rules.specs.declared.Filed.{Filed}
 use Rattle.cache_rules.specs.declared.Filed.TheVariants.{Count, Refused}
 use Rattle.cache_rules.specs.Cache.{room_of, is_cache, filed_of, buffer_of, ask_of}
-use Rattle.cache_rules.specs.CacheLaws.{cache_exactly}
-use Rattle.cache_rules.specs.RefusalLaws.{count_accepted}
-use Rattle.cache_rules.specs.FilingLaws.{after_cache}
+use Rattle.cache_rules.proofs.CacheLaws.{cache_exactly}
+use Rattle.cache_rules.proofs.RefusalLaws.{count_accepted}
+use Rattle.cache_rules.proofs.FilingLaws.{after_cache}
 use Rattle.cache_places.specs.EvenlyLaws.{even_room}
 use Rattle.cache_ask.specs.Found.{card_or_zeros}
 use Rattle.cache_line.specs.Input.{is_new, clock_in, begins_at, paper_in, cache_in, input_form}

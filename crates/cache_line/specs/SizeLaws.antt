@@ -17,7 +17,7 @@ use Rattle.cache_rules.specs.declared.Filed.{Filed}
 use Rattle.cache_rules.specs.declared.Filed.TheVariants as filed
 use Rattle.cache_rules.specs.Place.{width, places, kind_at, slip_in, slip_size}
 use Rattle.cache_rules.specs.Cache.{is_cache, filed_of}
-use Rattle.cache_rules.specs.CacheLaws.{cache_exactly}
+use Rattle.cache_rules.proofs.CacheLaws.{cache_exactly}
 use Rattle.cache_places.specs.Evenly.{evenly}
 use Rattle.cache_places.specs.EvenlyLaws.{even_length}
 use Rattle.cache_ask.specs.declared.Sought.{Sought}

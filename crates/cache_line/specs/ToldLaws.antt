@@ -21,14 +21,14 @@ use Rattle.fields.specs.Field.{card_in}
 use Rattle.answer.specs.Verdict.{number_of, refused}
 use Rattle.slip.specs.Slip.{slip_of, Sized}
 use Rattle.cache_room.specs.Room.{held_at}
-use Rattle.cache_room.specs.FirstLaws.{held_card}
+use Rattle.cache_room.proofs.FirstLaws.{held_card}
 use Rattle.cache_rules.specs.Place.{places, slip_in, card_at, says_at, is_said, this_of, next_of, stale_at}
-use Rattle.cache_rules.specs.FitLaws.{held_slip, full_said}
+use Rattle.cache_rules.proofs.FitLaws.{held_slip, full_said}
 use Rattle.cache_rules.specs.Cache.{room_of, place_in, is_cache, told, not_held, ask_of}
-use Rattle.cache_rules.specs.CacheLaws.{cache_exactly, place_octets, place_fit}
-use Rattle.cache_rules.specs.HeldLaws.{card_nonempty, here_said}
+use Rattle.cache_rules.proofs.CacheLaws.{cache_exactly, place_octets, place_fit}
+use Rattle.cache_rules.proofs.HeldLaws.{card_nonempty, here_said}
 use Rattle.cache_rules.specs.Has.{Has}
-use Rattle.cache_rules.specs.AskTheorem.{three}
+use Rattle.cache_rules.proofs.AskTheorem.{three}
 use Rattle.cache_place.specs.TimesLaws.{place_times, late_stale}
 use Rattle.cache_places.specs.Evenly.{evenly}
 use Rattle.cache_places.specs.EvenlyLaws.{even_length, even_room}

@@ -19,7 +19,7 @@ use Rattle.cache_rules.specs.declared.Filed.{Filed}
 use Rattle.cache_rules.specs.declared.Filed.TheVariants as filed
 use Rattle.cache_rules.specs.Place.{width, places}
 use Rattle.cache_rules.specs.Cache.{is_cache, filed_of, buffer_of}
-use Rattle.cache_rules.specs.RefusalLaws.{refusal_exactly, refused_number}
+use Rattle.cache_rules.proofs.RefusalLaws.{refusal_exactly, refused_number}
 use Rattle.cache_ask.specs.declared.Sought.TheVariants.{Refused}
 use Rattle.cache_ask.specs.Found.{ask_found}
 use Rattle.cache_line.specs.Input.{is_new, clock_in, begins_at, paper_in, cache_in, cache_room_least}

@@ -24,8 +24,8 @@ use Rattle.slip.specs.Slip.{card_octets, body_of, slip_of}
 use Rattle.slip.specs.CardOctetsLaws.{card_length}
 use Rattle.slip.specs.SlipLaws.{slip_parts}
 use Rattle.cache_rules.specs.Place.{kind_at, slip_in, card_at, says_at, is_said, place_ok, this_of, next_of, stale_at, is_stale, says_of, slip_size}
-use Rattle.cache_rules.specs.PlaceLaws.{read_sized, carded, said_kind, slip_back}
-use Rattle.cache_rules.specs.FitLaws.{full_said}
+use Rattle.cache_rules.proofs.PlaceLaws.{read_sized, carded, said_kind, slip_back}
+use Rattle.cache_rules.proofs.FitLaws.{full_said}
 use Rattle.cache_place.specs.Times.{this_at, next_at, late_at}
 
 -- ---- two numbers after a kind and a card

@@ -15,8 +15,8 @@ use borrow.Author.Tests.{eqb-true, eqb-false, le-leb, leb-true, leb-false, not-t
 use Rattle.octets.specs.Same.{same_of}
 use Rattle.octets.specs.SameLaws.{impossible, same_true, same_false}
 use Rattle.cache_room.specs.Room.{is_empty, held_at, cards_once}
-use Rattle.cache_room.specs.FirstLaws.{held_card, held_there, held_none}
-use Rattle.cache_room.specs.SingleLaws.{single_true, single_from}
+use Rattle.cache_room.proofs.FirstLaws.{held_card, held_there, held_none}
+use Rattle.cache_room.proofs.SingleLaws.{single_true, single_from}
 use Rattle.cache_rules.specs.Place.{card_at}
 use Rattle.cache_places.specs.Evenly.{evenly}
 use Rattle.cache_places.specs.EvenlyLaws.{even_length}

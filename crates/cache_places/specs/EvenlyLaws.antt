@@ -5,7 +5,7 @@ use Rattle.std.specs.Prelude.{ℕ, ◌*◌, ◌/◌, ◌<◌, ◌≡◌, length,
 use Rattle.std.proofs.Math.Path.{ap}
 use mathlib.Core.List.{List, []}
 use Rattle.cache_room.specs.Parts.{parts_of}
-use Rattle.cache_room.specs.PartsLaws.{parts_length, part_at}
+use Rattle.cache_room.proofs.PartsLaws.{parts_length, part_at}
 use Rattle.cache_rules.specs.Place.{width, places}
 use Rattle.cache_rules.specs.Cache.{room_of}
 use Rattle.cache_places.specs.Evenly.{evenly}

@@ -16,8 +16,8 @@ use Rattle.request.specs.Request.{request_of, request_refusal}
 use Rattle.slip.specs.Slip.{slip_of, read_of}
 use Rattle.slip.specs.SlipLaws.{read_written}
 use Rattle.desk_question.specs.Asked.{asked}
-use Rattle.desk_question.specs.FitsLaws.{fits_slip}
-use Rattle.desk_question.specs.SizeLaws.{asked_sized}
+use Rattle.desk_question.proofs.FitsLaws.{fits_slip}
+use Rattle.desk_question.proofs.SizeLaws.{asked_sized}
 use Rattle.desk_c.specs.Papers.{size_or0, request_size, request_in}
 
 -- ── a request ──

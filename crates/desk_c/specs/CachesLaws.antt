@@ -20,11 +20,11 @@ use Rattle.show.specs.Parts.{empty_span}
 use Rattle.show.specs.Shown.{octets_in}
 use Rattle.cache_rules.specs.declared.Told.{Told}
 use Rattle.cache_rules.specs.Place.{says_at}
-use Rattle.cache_rules.specs.PlaceLaws.{said_kind}
+use Rattle.cache_rules.proofs.PlaceLaws.{said_kind}
 use Rattle.cache_rules.specs.Cache.{place_in, is_cache, told, not_held, ask_of}
-use Rattle.cache_rules.specs.AskLaws.{told_same}
+use Rattle.cache_rules.proofs.AskLaws.{told_same}
 use Rattle.cache_rules.specs.Numbers.{asked_number}
-use Rattle.cache_rules.specs.NumberLaws.{asked_number_lem}
+use Rattle.cache_rules.proofs.NumberLaws.{asked_number_lem}
 use Rattle.cache_ask.specs.declared.Sought.{Sought}
 use Rattle.cache_ask.specs.declared.Sought.TheVariants.{At, NotHeld, Refused}
 use Rattle.cache_ask.specs.Found.{ask_found, told_in}

@@ -17,13 +17,13 @@ use Rattle.layout.specs.Read.{reads}
 use Rattle.layout.proofs.Read.{reading}
 use Rattle.read_response.specs.Parts.{judged_of}
 use Rattle.read_response.specs.Refusals.{refusal_of}
-use Rattle.read_response.specs.JudgedLaws.{judged_basic}
+use Rattle.read_response.proofs.JudgedLaws.{judged_basic}
 use Rattle.read_response.specs.declared.Parts.{Parts}
 use Rattle.read_response.specs.declared.Judged.{Judged}
 use Rattle.read_response.specs.declared.Judged.TheVariants as judged
 use Rattle.show.specs.Parts.{empty_span, no_parts, shown_parts}
 use Rattle.show.specs.Shown.{octets_in, entry_of}
-use Rattle.show.specs.EntryLaws.{entry_refused, entry_shown, entry_past, entry_stands}
+use Rattle.show.proofs.EntryLaws.{entry_refused, entry_shown, entry_past, entry_stands}
 use Rattle.read_content.specs.ExpectLaws.{never}
 use Rattle.desk_c.specs.Places.{certificates_in, entry_number, entry_span}
 use Rattle.desk_c.specs.HeldLaws.{held_nothing}

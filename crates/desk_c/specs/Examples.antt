@@ -4,7 +4,7 @@
 use Rattle.std.specs.Prelude.{◌≡◌, refl, [], ◌∷◌}
 use Rattle.layout.proofs.Opened.{opened}
 use Rattle.read_response.specs.Parts.{span, parts_from, judged_as, judged_of}
-use Rattle.read_response.specs.Examples.{full}
+use Rattle.read_response.proofs.Examples.{full}
 use Rattle.show.specs.Parts.{empty_span, shown_parts}
 use Rattle.desk_c.specs.Places.{algorithm_in, behind_header, last_before, held_in, certificates_in}
 

@@ -19,10 +19,10 @@ use Rattle.freshness.specs.Clock.{clock_ok}
 use Rattle.freshness.specs.declared.Next.TheVariants.{At as NextAt}
 use Rattle.freshness.specs.Fresh.{fresh_of, fresh_refusal}
 use Rattle.cache_room.specs.Room.{held_at}
-use Rattle.cache_room.specs.PartsLaws.{parts_wide, wide_at}
+use Rattle.cache_room.proofs.PartsLaws.{parts_wide, wide_at}
 use Rattle.cache_rules.specs.Place.{width, places, slip_size, kind_at, slip_in, card_at, says_at}
 use Rattle.cache_rules.specs.Cache.{room_of, place_in, is_cache, told}
-use Rattle.cache_rules.specs.CacheLaws.{cache_exactly, room_length}
+use Rattle.cache_rules.proofs.CacheLaws.{cache_exactly, room_length}
 use Rattle.cache_place.specs.Times.{this_at, next_at}
 use Rattle.cache_places.specs.Evenly.{evenly}
 use Rattle.cache_places.specs.EvenlyLaws.{even_room}

@@ -19,7 +19,7 @@ use Rattle.slip.specs.Rules.{verdict_ok}
 use Rattle.slip.specs.RulesLaws.{refused_broken}
 use Rattle.slip.specs.Slip.{slip_of, slip_ok, verdict_in, card_under, parsed_as, parsed, read_of, Hashed, Sized}
 use Rattle.slip.specs.SlipLaws.{slip_parts, written_read, read_written}
-use Rattle.desk_question.specs.SizeLaws.{card_sized}
+use Rattle.desk_question.proofs.SizeLaws.{card_sized}
 use Rattle.desk_c.specs.Papers.{slip_number, size_or0, request_size, request_in}
 
 -- ── slips ──

@@ -19,10 +19,10 @@ use Rattle.layout.specs.Read.{reads}
 use Rattle.layout.proofs.Read.{reading}
 use Rattle.read_response.specs.Parts.{judged_of}
 use Rattle.read_response.specs.Stands.{Stands}
-use Rattle.read_response.specs.PartsLaws.{algorithm_stands, certificates_stand}
-use Rattle.read_response.specs.JudgedLaws.{basic_judged}
+use Rattle.read_response.proofs.PartsLaws.{algorithm_stands, certificates_stand}
+use Rattle.read_response.proofs.JudgedLaws.{basic_judged}
 use Rattle.show.specs.Parts.{empty_span, shown_parts}
-use Rattle.show.specs.PartsLaws.{list_inside}
+use Rattle.show.proofs.PartsLaws.{list_inside}
 use Rattle.show.specs.Shown.{octets_in}
 use Rattle.desk_c.specs.Places.{algorithm_in, certificates_in}
 use Rattle.desk_c.specs.HeldLaws.{held_octets, held_none, held_inside, held_nothing}

@@ -17,17 +17,17 @@ use Rattle.answer.specs.Card.{card_ok}
 use Rattle.fields.specs.Field.{card_in}
 use Rattle.slip.specs.Slip.{card_octets, slip_of}
 use Rattle.slip.specs.CardOctetsLaws.{card_written}
-use Rattle.desk_question.specs.SizeLaws.{card_sized}
+use Rattle.desk_question.proofs.SizeLaws.{card_sized}
 use Rattle.cache_room.specs.Room.{held_at}
-use Rattle.cache_room.specs.FirstLaws.{held_card}
+use Rattle.cache_room.proofs.FirstLaws.{held_card}
 use Rattle.cache_rules.specs.Place.{slip_size, kind_at, slip_in, card_at, says_at, is_said}
-use Rattle.cache_rules.specs.FitLaws.{held_slip}
+use Rattle.cache_rules.proofs.FitLaws.{held_slip}
 use Rattle.cache_rules.specs.Cache.{room_of, place_in, is_cache, ask_of}
-use Rattle.cache_rules.specs.CacheLaws.{room_length, place_octets}
-use Rattle.cache_rules.specs.AskLaws.{ask_19, ask_clock, ask_card}
-use Rattle.cache_rules.specs.HeldLaws.{here_said}
+use Rattle.cache_rules.proofs.CacheLaws.{room_length, place_octets}
+use Rattle.cache_rules.proofs.AskLaws.{ask_19, ask_clock, ask_card}
+use Rattle.cache_rules.proofs.HeldLaws.{here_said}
 use Rattle.cache_rules.specs.Has.{Has}
-use Rattle.cache_rules.specs.AskTheorem.{slip_stands}
+use Rattle.cache_rules.proofs.AskTheorem.{slip_stands}
 use Rattle.cache_places.specs.Evenly.{evenly}
 use Rattle.cache_ask.specs.declared.Sought.TheVariants.{At}
 use Rattle.cache_ask.specs.Found.{card_in_range, card_or_zeros, ask_found, told_in}

@@ -19,7 +19,7 @@ use Rattle.fields.specs.Field.{field_at, value_at, card_in}
 use Rattle.rules.specs.declared.Question.{Question}
 use Rattle.rules.specs.Ruling.{answer_of}
 use Rattle.desk_question.specs.Asked.{question_in, name_in, fill_in, question_ok, asked}
-use Rattle.desk_question.specs.AskedLaws.{octet_there, question_exactly, asked_broken, asked_kept}
+use Rattle.desk_question.proofs.AskedLaws.{octet_there, question_exactly, asked_broken, asked_kept}
 
 -- ---- the form
 

@@ -11,10 +11,10 @@ use Rattle.std.proofs.Math.Seq.{length-take-le}
 use Rattle.rules.specs.declared.Question.{Question}
 use Rattle.rules.specs.Question.{in_range}
 use Rattle.rules.specs.Ruling.{answer_of}
-use Rattle.rules.specs.RowLaws.{row_2}
-use Rattle.rules.specs.RefusalLaws.{out_of_range}
+use Rattle.rules.proofs.RowLaws.{row_2}
+use Rattle.rules.proofs.RefusalLaws.{out_of_range}
 use Rattle.desk_question.specs.Asked.{question_in, name_in, question_ok, asked, desk_of}
-use Rattle.desk_question.specs.AskedLaws.{asked_broken, asked_kept}
+use Rattle.desk_question.proofs.AskedLaws.{asked_broken, asked_kept}
 use Rattle.desk_question.specs.Line.{line_of}
 use Rattle.desk_intake.specs.Kept.{kept_of}
 use Rattle.desk_intake.specs.KeptLaws.{kept_all}

@@ -21,8 +21,8 @@ use Rattle.slip.specs.SlipLaws.{read_written}
 use Rattle.hexadecimal.specs.Hex.{hex_line}
 use Rattle.desk_question.specs.Asked.{asked, desk_of}
 use Rattle.desk_question.specs.Line.{question_end, line_of}
-use Rattle.desk_question.specs.LineLaws.{line_is, end_short, end_long, end_least, cut_question, cut_response, desk_fits, desk_most}
-use Rattle.desk_question.specs.SizeLaws.{asked_sized}
+use Rattle.desk_question.proofs.LineLaws.{line_is, end_short, end_long, end_least, cut_question, cut_response, desk_fits, desk_most}
+use Rattle.desk_question.proofs.SizeLaws.{asked_sized}
 
 -- ---- the input, cut
 

@@ -1,10 +1,5 @@
 pub mod Tests
-pub mod TestLaws
 pub mod Described
 pub mod Misfits
-pub mod EntryLaws
-pub mod ResponseLaws
 pub mod EnvelopeLaws
 pub mod Theorem
-pub mod Examples
-pub mod FullExample

@@ -16,7 +16,7 @@ use Rattle.rules.specs.declared.Question.{Question}
 use Rattle.rules.specs.Order.{entries_for}
 use Rattle.rules.specs.Ruling.{reason_in, answer_of}
 use Rattle.rules.specs.Accepted.{InRange, Signs, KnownInResponse, KnownInEntry, Understood, Accepted, NoRefusal, HasTimes}
-use Rattle.rules.specs.RulingLaws as ruling
+use Rattle.rules.proofs.RulingLaws as ruling
 
 module _ (q : Question) (name s : List ℕ) where
   -- ── the conditions, in full ──

@@ -21,9 +21,9 @@ use Rattle.cache_rules.specs.Place.{slip_size, kind_at, says_at, this_of, next_o
 use Rattle.cache_rules.specs.Cache.{place_in, is_cache, told, not_held, ask_of}
 use Rattle.cache_rules.specs.Has.{Has}
 use Rattle.cache_rules.specs.Numbers.{asked_number}
-use Rattle.cache_rules.specs.NumberLaws.{asked_number_lem}
-use Rattle.cache_rules.specs.AskTheorem as ask
-use Rattle.cache_rules.specs.OutcomeTheorem as order
+use Rattle.cache_rules.proofs.NumberLaws.{asked_number_lem}
+use Rattle.cache_rules.proofs.AskTheorem as ask
+use Rattle.cache_rules.proofs.OutcomeTheorem as order
 
 -- what is told: an answer or a refusal with its card, which is empty for a refusal; or that the card is not held
 pub told_in_full : (a : Answer) → told a ≡ record { asked = Says a.verdict; card = a.card }

@@ -15,7 +15,7 @@ use Rattle.cache_rules.specs.declared.Filed.TheVariants.{Count}
 use Rattle.cache_rules.specs.Place.{card_at, says_at, place_of, this_of, says_of}
 use Rattle.cache_rules.specs.Cache.{room_of, place_in, is_cache, takes, filed_of, buffer_of}
 use Rattle.cache_rules.specs.Has.{Has, Free}
-use Rattle.cache_rules.specs.FileTheorem as filing
+use Rattle.cache_rules.proofs.FileTheorem as filing
 
 -- a filing that is accepted, with the answer n
 module _ (clock : Clock) (s t : List ℕ) (o : Octets t) (n : ℕ) (accepted : filed_of clock s t ≡ Count n) where

@@ -22,9 +22,9 @@ use Rattle.freshness.specs.declared.Clock.{Clock}
 use Rattle.cache_rules.specs.Place.{kind_at, card_at, says_at, is_said, place_ok, place_of, says_of, WholeCard}
 use Rattle.cache_rules.specs.Cache.{place_in, is_cache}
 use Rattle.cache_rules.specs.Has.{Has}
-use Rattle.cache_rules.specs.FitLaws.{slip_exactly, place_exactly, empty_exactly}
-use Rattle.cache_rules.specs.CacheLaws.{place_at, place_octets, place_fit, cache_places}
-use Rattle.cache_rules.specs.AskTheorem.{has_exactly}
+use Rattle.cache_rules.proofs.FitLaws.{slip_exactly, place_exactly, empty_exactly}
+use Rattle.cache_rules.proofs.CacheLaws.{place_at, place_octets, place_fit, cache_places}
+use Rattle.cache_rules.proofs.AskTheorem.{has_exactly}
 use Rattle.cache_rules.specs.Examples.{cache_computes}
 
 -- a buffer is a cache exactly if it has 5,568 octets, each of its 64 places fits, and two places with one card are one

@@ -17,8 +17,8 @@ use Rattle.cache_rules.specs.Place.{is_stale, says_of, WholeCard}
 use Rattle.cache_rules.specs.Cache.{place_in, is_cache, takes, buffer_of, told, ask_of}
 use Rattle.cache_rules.specs.Has.{Has}
 use Rattle.cache_rules.specs.Many.{after_all, AllOctets, ForOthers}
-use Rattle.cache_rules.specs.FileTheorem as filing
-use Rattle.cache_rules.specs.ManyTheorem as many
+use Rattle.cache_rules.proofs.FileTheorem as filing
+use Rattle.cache_rules.proofs.ManyTheorem as many
 
 -- one filing, accepted or refused: for another card every ask, with every time and tolerance, gives what it gave
 -- before; or that card's place was stale at the filing's time and is the one taken, and no place has the card

@@ -14,8 +14,8 @@ use Rattle.cache_rules.specs.Place.{is_said, says_of}
 use Rattle.cache_rules.specs.Cache.{is_cache, filed_of, buffer_of}
 use Rattle.cache_rules.specs.Has.{Full}
 use Rattle.cache_rules.specs.Numbers.{filed_number, filed_count}
-use Rattle.cache_rules.specs.NumberLaws.{filed_number_lem}
-use Rattle.cache_rules.specs.RefusalTheorem as refusal
+use Rattle.cache_rules.proofs.NumberLaws.{filed_number_lem}
+use Rattle.cache_rules.proofs.RefusalTheorem as refusal
 
 module _ (clock : Clock) (s t : List ℕ) where
   -- a refused filing leaves every octet

@@ -16,11 +16,11 @@ use Rattle.slip.specs.Slip.{slip_of, slip_ok, read_of}
 use Rattle.slip.specs.SlipLaws.{read_written}
 use Rattle.hexadecimal.specs.Hex.{hex_of}
 use Rattle.desk_question.specs.Asked.{name_size, question_in, name_in, fill_in, question_ok, asked, desk_of}
-use Rattle.desk_question.specs.AskedLaws as desk
-use Rattle.desk_question.specs.SizeLaws.{asked_sized}
+use Rattle.desk_question.proofs.AskedLaws as desk
+use Rattle.desk_question.proofs.SizeLaws.{asked_sized}
 use Rattle.desk_question.specs.Line.{line_of}
-use Rattle.desk_question.specs.LineLaws.{desk_fits, desk_most}
-use Rattle.desk_question.specs.Examples as examples
+use Rattle.desk_question.proofs.LineLaws.{desk_fits, desk_most}
+use Rattle.desk_question.proofs.Examples as examples
 use Rattle.desk_intake.specs.Kept.{kept_of, kept_with, space_kept, Holds}
 use Rattle.desk_intake.specs.KeptLaws.{holds_next, kept_either}
 use Rattle.desk_intake.specs.SameLineLaws as same

@@ -18,16 +18,16 @@ use Rattle.layout.proofs.Read.{der}
 use Rattle.layout.proofs.Opened.{opened}
 use Rattle.read_content.specs.ExpectLaws.{never}
 use Rattle.read_response.specs.Parts.{judged_of}
-use Rattle.read_response.specs.OutcomeLaws as kinds
+use Rattle.read_response.proofs.OutcomeLaws as kinds
 use Rattle.read_response.specs.declared.Judged.{Judged}
 use Rattle.read_response.specs.declared.Judged.TheVariants as judged
 use Rattle.answer.specs.Verdict.{refused_at, refused}
 use Rattle.answer.specs.declared.Place.TheVariants.{At}
 use Rattle.rules.specs.declared.Question.{Question}
 use Rattle.rules.specs.Accepted.{InRange}
-use Rattle.rules.specs.AcceptedLaws.{range_exactly}
+use Rattle.rules.proofs.AcceptedLaws.{range_exactly}
 use Rattle.rules.specs.Ruling.{answer_of}
-use Rattle.rules.specs.EarlyLaws as ruling
+use Rattle.rules.proofs.EarlyLaws as ruling
 use Rattle.promises.specs.OneReading.{basic_exactly, error_exactly}
 
 -- ── three kinds of responses, in octets ──

@@ -24,7 +24,7 @@ use Rattle.read_response.specs.declared.Parts.{Parts}
 use Rattle.read_response.specs.declared.Span.{Span}
 use Rattle.read_response.specs.declared.Judged.{Judged}
 use Rattle.read_response.specs.declared.Judged.TheVariants as judged
-use Rattle.show.specs.PartsLaws as parts
+use Rattle.show.proofs.PartsLaws as parts
 use Rattle.show.specs.Shown.{octets_in, signed_of, signature_of, entry_of}
 use Rattle.show.specs.declared.Entry.{Entry}
 use Rattle.show.specs.declared.Entry.TheVariants as entry

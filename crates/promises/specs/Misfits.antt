@@ -15,25 +15,25 @@ use Rattle.layout.specs.Read.{unfit}
 use Rattle.layout.proofs.Read.{reading}
 use Rattle.layout.proofs.Theorem.{place_within_lem}
 use Rattle.faults.specs.Head.{cut_off}
-use Rattle.faults.specs.HeadLaws.{head_place}
+use Rattle.faults.proofs.HeadLaws.{head_place}
 use Rattle.faults.specs.Order.{Least}
 use Rattle.misfits.specs.Misfits.{misfits}
-use Rattle.misfits.specs.Theorem.{place_least, fits_none}
+use Rattle.misfits.proofs.Theorem.{place_least, fits_none}
 use Rattle.answer.specs.Verdict.{refused_at}
 use Rattle.answer.specs.declared.Verdict.TheVariants.{Refused}
 use Rattle.answer.specs.declared.Place.{Place}
 use Rattle.answer.specs.declared.Place.TheVariants.{At, Absent}
 use Rattle.answer.specs.declared.Answer.{Answer}
 use Rattle.read_response.specs.Parts.{judged_of}
-use Rattle.read_response.specs.OutcomeLaws.{unfit_judged, long_judged}
+use Rattle.read_response.proofs.OutcomeLaws.{unfit_judged, long_judged}
 use Rattle.read_response.specs.declared.Judged.{Judged}
 use Rattle.read_response.specs.declared.Judged.TheVariants as judged
 use Rattle.rules.specs.declared.Question.{Question}
 use Rattle.rules.specs.Accepted.{InRange}
-use Rattle.rules.specs.AcceptedLaws.{range_exactly}
+use Rattle.rules.proofs.AcceptedLaws.{range_exactly}
 use Rattle.rules.specs.Ruling.{answer_of}
-use Rattle.rules.specs.RefusalLaws.{refusal_whole}
-use Rattle.rules.specs.EarlyLaws.{three_exactly, place_exactly}
+use Rattle.rules.proofs.RefusalLaws.{refusal_whole}
+use Rattle.rules.proofs.EarlyLaws.{three_exactly, place_exactly}
 use Rattle.walk_rules.specs.Handed.{at}
 use Rattle.promises.specs.OneReading.{basic_exactly, error_exactly}
 use Rattle.promises.specs.Envelopes.{IsError, IsOtherType, IsBasic, other_type_exactly, unfit_exactly}

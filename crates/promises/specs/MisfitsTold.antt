@@ -12,23 +12,23 @@ use Rattle.std.specs.Borrow.{Bor}
 use Rattle.octets.specs.SameLaws.{impossible}
 use Rattle.faults.specs.Order.{Least}
 use Rattle.misfits.specs.Misfits.{misfits}
-use Rattle.misfits.specs.Theorem.{place_least}
+use Rattle.misfits.proofs.Theorem.{place_least}
 use Rattle.answer.specs.Verdict.{refused}
 use Rattle.answer.specs.declared.Place.TheVariants.{At}
 use Rattle.read_content.specs.ExpectLaws.{never}
 use Rattle.read_response.specs.Parts.{judged_of}
 use Rattle.read_response.specs.Refusals.{refusal_of}
-use Rattle.read_response.specs.OutcomeLaws.{unfit_judged}
+use Rattle.read_response.proofs.OutcomeLaws.{unfit_judged}
 use Rattle.read_response.specs.declared.Judged.{Judged}
 use Rattle.read_response.specs.declared.Judged.TheVariants as judged
 use Rattle.show.specs.Shown.{entry_of}
-use Rattle.show.specs.EntryLaws.{entry_refused}
+use Rattle.show.proofs.EntryLaws.{entry_refused}
 use Rattle.show.specs.declared.Entry.TheVariants as entry
 use Rattle.rules.specs.Accepted.{InRange}
 use Rattle.walk_rules.specs.Walked.{say_of}
 use Rattle.walk_rules.specs.Handed.{at}
 use Rattle.desk_question.specs.Asked.{question_in, name_in, question_ok, asked}
-use Rattle.desk_question.specs.AskedLaws.{asked_kept, asked_broken}
+use Rattle.desk_question.proofs.AskedLaws.{asked_kept, asked_broken}
 use Rattle.desk_c.specs.Places.{entry_number, place_over}
 use Rattle.desk_c.specs.EntryLaws.{entry_number_lem}
 use Rattle.promises.specs.Misfits.{no_misfit, place_carried}

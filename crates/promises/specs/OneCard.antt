@@ -20,10 +20,10 @@ use Rattle.answer.specs.Verdict.{saying}
 use Rattle.rules.specs.declared.Question.{Question}
 use Rattle.rules.specs.Ruling.{said, answer_of}
 use Rattle.rules.specs.Accepted.{Accepted, NoRefusal}
-use Rattle.rules.specs.RulingLaws.{accepted_exactly, accepted_answer}
+use Rattle.rules.proofs.RulingLaws.{accepted_exactly, accepted_answer}
 use Rattle.rules.specs.OneCard.{ForCard, OnlyEntry, Differ}
-use Rattle.rules.specs.EntriesLaws.{only_exactly}
-use Rattle.rules.specs.OneCardLaws as ruling
+use Rattle.rules.proofs.EntriesLaws.{only_exactly}
+use Rattle.rules.proofs.OneCardLaws as ruling
 
 -- an entry is for a card: its algorithm is SHA-1, with parameters absent or 05 00, and its two hashes and its serial are
 -- the card's

@@ -14,8 +14,8 @@ use Rattle.layout.proofs.Read.{der, reading}
 use Rattle.layout.proofs.Theorem.{sound, complete, unique, der_octets}
 use Rattle.layout.proofs.Opened.{opened}
 use Rattle.read_response.specs.Parts.{judged_of, parts_in}
-use Rattle.read_response.specs.JudgedLaws.{judged_basic, basic_judged}
-use Rattle.read_response.specs.OutcomeLaws.{failed_judged}
+use Rattle.read_response.proofs.JudgedLaws.{judged_basic, basic_judged}
+use Rattle.read_response.proofs.OutcomeLaws.{failed_judged}
 use Rattle.read_response.specs.declared.Parts.{Parts}
 use Rattle.read_response.specs.declared.Judged.TheVariants as judged
 

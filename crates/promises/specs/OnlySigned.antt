@@ -25,14 +25,14 @@ use Rattle.layout.proofs.Theorem.{sound, complete, der_octets}
 use Rattle.answer.specs.Verdict.{refused}
 use Rattle.answer.specs.declared.Answer.{Answer}
 use Rattle.read_response.specs.Parts.{parts_in}
-use Rattle.read_response.specs.PartsLaws.{signed_stands}
+use Rattle.read_response.proofs.PartsLaws.{signed_stands}
 use Rattle.show.specs.Shown.{signed_of}
-use Rattle.show.specs.ShownLaws.{signed_shown}
+use Rattle.show.proofs.ShownLaws.{signed_shown}
 use Rattle.rules.specs.declared.Question.{Question}
 use Rattle.rules.specs.Order.{Case, tests, first_of}
 use Rattle.rules.specs.Ruling.{ruled, answer_of}
 use Rattle.desk_question.specs.Asked.{question_in, name_in, question_ok, asked, desk_of}
-use Rattle.desk_question.specs.AskedLaws.{asked_kept}
+use Rattle.desk_question.proofs.AskedLaws.{asked_kept}
 use Rattle.desk_question.specs.Line.{line_of}
 use Rattle.promises.specs.Passes.{Passes, passes_exactly, asked_passes_exactly}
 

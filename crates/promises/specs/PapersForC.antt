@@ -20,9 +20,9 @@ use Rattle.slip.specs.SlipLaws.{read_written}
 use Rattle.request.specs.Request.{request_of}
 use Rattle.rules.specs.Ruling.{answer_of}
 use Rattle.desk_question.specs.Asked.{question_in, name_in, question_ok, asked}
-use Rattle.desk_question.specs.AskedLaws.{asked_kept, asked_broken}
-use Rattle.desk_question.specs.FitsLaws.{fits_slip}
-use Rattle.desk_question.specs.SizeLaws.{asked_sized, asked_most}
+use Rattle.desk_question.proofs.AskedLaws.{asked_kept, asked_broken}
+use Rattle.desk_question.proofs.FitsLaws.{fits_slip}
+use Rattle.desk_question.proofs.SizeLaws.{asked_sized, asked_most}
 use Rattle.desk_c.specs.Papers.{slip_number, request_size, request_in}
 use Rattle.desk_c.specs.PapersLaws as papers
 

@@ -15,8 +15,8 @@ use Rattle.layout.specs.Read.{reads}
 use Rattle.layout.proofs.Read.{reading}
 use Rattle.read_response.specs.Parts.{parts_from, judged_of, parts_in}
 use Rattle.read_response.specs.Stands.{Stands}
-use Rattle.read_response.specs.PartsLaws as parts
-use Rattle.read_response.specs.JudgedLaws.{judged_basic}
+use Rattle.read_response.proofs.PartsLaws as parts
+use Rattle.read_response.proofs.JudgedLaws.{judged_basic}
 use Rattle.read_response.specs.declared.Span.{Span}
 use Rattle.read_response.specs.declared.Parts.{Parts}
 use Rattle.read_response.specs.declared.Judged.TheVariants as judged

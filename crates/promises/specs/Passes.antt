@@ -20,14 +20,14 @@ use Rattle.answer.specs.declared.Answer.{Answer}
 use Rattle.rules.specs.declared.Question.{Question}
 use Rattle.rules.specs.Question.{in_range}
 use Rattle.rules.specs.Accepted.{InRange}
-use Rattle.rules.specs.AcceptedLaws.{range_exactly}
+use Rattle.rules.proofs.AcceptedLaws.{range_exactly}
 use Rattle.rules.specs.Order.{tests}
 use Rattle.rules.specs.Rows.{test_of}
 use Rattle.rules.specs.Ruling.{case_of, answer_of}
-use Rattle.rules.specs.RowLaws.{row_2, row_3, row_4, row_5}
-use Rattle.rules.specs.RefusalLaws.{refusal_whole, refusal_exactly, out_of_range}
+use Rattle.rules.proofs.RowLaws.{row_2, row_3, row_4, row_5}
+use Rattle.rules.proofs.RefusalLaws.{refusal_whole, refusal_exactly, out_of_range}
 use Rattle.desk_question.specs.Asked.{question_in, name_in, question_ok, asked}
-use Rattle.desk_question.specs.AskedLaws.{asked_broken, asked_kept}
+use Rattle.desk_question.proofs.AskedLaws.{asked_broken, asked_kept}
 
 -- an answer passes 1 to 5: it is no refusal with one of these numbers
 abbrev pub Passes : Answer → Type 0

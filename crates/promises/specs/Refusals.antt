@@ -22,7 +22,7 @@ use Rattle.rules.specs.Order.{Case, is_unfit, is_failed, is_other, entries_for, 
 use Rattle.rules.specs.Rows.{test_of}
 use Rattle.rules.specs.Ruling.{case_of, answer_of}
 use Rattle.rules.specs.Accepted.{Accepted, IsRefusal}
-use Rattle.rules.specs.RefusalLaws as ruling
+use Rattle.rules.proofs.RefusalLaws as ruling
 
 -- the table, row by row: each number, and whether its test applies
 pub table : (c : Case) → tests c

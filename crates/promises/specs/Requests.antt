@@ -17,7 +17,7 @@ use Rattle.fields.specs.OutputLaws.{output_refused, output_short, output_written
 use Rattle.fields.specs.declared.Output.TheVariants as output
 use Rattle.request.specs.Request.{request_form, request_of, request_refusal, Typed}
 use Rattle.request.specs.RequestFormat.{ocsp_request, cert_of}
-use Rattle.request.specs.RequestLaws as request
+use Rattle.request.proofs.RequestLaws as request
 
 -- four sequences, each holding only the next, the fourth holding one CertID: SHA-1 with 05 00, both hashes, the serial
 pub request_octets : (card : Card) → request_of card

@@ -20,10 +20,10 @@ use Rattle.rules.specs.Order.{entries_for, is_none, are_more, missed, tests}
 use Rattle.rules.specs.Rows.{test_of}
 use Rattle.rules.specs.Ruling.{case_of}
 use Rattle.rules.specs.Accepted.{InRange, Signs, KnownInResponse, KnownInEntry, NotUnderstood}
-use Rattle.rules.specs.AcceptedLaws.{range_exactly, signer_exactly, response_exactly, entry_exactly}
+use Rattle.rules.proofs.AcceptedLaws.{range_exactly, signer_exactly, response_exactly, entry_exactly}
 use Rattle.rules.specs.OneCard.{ForCard, OnlyEntry}
-use Rattle.rules.specs.EntriesLaws.{none_exactly}
-use Rattle.rules.specs.PlainLaws as plain
+use Rattle.rules.proofs.EntriesLaws.{none_exactly}
+use Rattle.rules.proofs.PlainLaws as plain
 
 module _ (q : Question) (name s : List ℕ) where
   -- the test of row n applies to a question, the signer's Name and a response

@@ -12,9 +12,9 @@ use Rattle.layout.specs.Read.{reads}
 use Rattle.layout.proofs.Read.{reading}
 use Rattle.read_response.specs.Parts.{judged_of, parts_in}
 use Rattle.read_response.specs.Stands.{Stands}
-use Rattle.read_response.specs.PartsLaws.{signed_stands, signature_stands}
+use Rattle.read_response.proofs.PartsLaws.{signed_stands, signature_stands}
 use Rattle.show.specs.Shown.{signed_in, signed_of, signature_in, signature_of}
-use Rattle.show.specs.ShownLaws.{signed_shown, signature_shown}
+use Rattle.show.proofs.ShownLaws.{signed_shown, signature_shown}
 use Rattle.read_response.specs.declared.Parts.{Parts}
 use Rattle.read_response.specs.declared.Judged.{Judged}
 use Rattle.read_response.specs.declared.Judged.TheVariants as judged

@@ -18,12 +18,12 @@ use Rattle.show.specs.declared.Entry.TheVariants as entry
 use Rattle.answer.specs.Verdict.{refused_at}
 use Rattle.answer.specs.declared.Card.{Card}
 use Rattle.rule_search.specs.Search.{found_of, for_card}
-use Rattle.rule_search.specs.FoundLaws.{found_none, found_one, found_two}
+use Rattle.rule_search.proofs.FoundLaws.{found_none, found_one, found_two}
 use Rattle.rule_search.specs.declared.Found.{Found}
 use Rattle.rule_search.specs.declared.Found.TheVariants as found
 use Rattle.rules.specs.declared.Question.{Question}
 use Rattle.rules.specs.Accepted.{InRange}
-use Rattle.rules.specs.AcceptedLaws.{range_exactly}
+use Rattle.rules.proofs.AcceptedLaws.{range_exactly}
 use Rattle.rules.specs.Ruling.{answer_of}
 use Rattle.rule_response.specs.Opened.{opened_of}
 use Rattle.rule_response.specs.declared.Opened.{Opened}

@@ -26,14 +26,14 @@ use Rattle.layout.proofs.OtherVersionLaws as others
 use Rattle.answer.specs.Verdict.{refused_at}
 use Rattle.answer.specs.declared.Place.TheVariants.{At}
 use Rattle.read_response.specs.Parts.{judged_of}
-use Rattle.read_response.specs.OutcomeLaws.{unfit_judged}
+use Rattle.read_response.proofs.OutcomeLaws.{unfit_judged}
 use Rattle.read_response.specs.declared.Judged.TheVariants as judged
 use Rattle.rules.specs.declared.Question.{Question}
 use Rattle.rules.specs.Accepted.{InRange}
-use Rattle.rules.specs.AcceptedLaws.{range_exactly}
+use Rattle.rules.proofs.AcceptedLaws.{range_exactly}
 use Rattle.rules.specs.Order.{tests}
 use Rattle.rules.specs.Ruling.{answer_of}
-use Rattle.rules.specs.EarlyLaws.{three_exactly}
+use Rattle.rules.proofs.EarlyLaws.{three_exactly}
 use Rattle.promises.specs.Envelopes.{success_form}
 
 -- ── a written version ──

@@ -21,7 +21,7 @@ use Rattle.read_response.specs.declared.Judged.TheVariants as judged
 use Rattle.show.specs.declared.Entry.TheVariants as entry
 use Rattle.walk_rules.specs.Walked.{start_of, say_of, hand_of, moved_of}
 use Rattle.walk_rules.specs.Handed.{at, handed, after_steps}
-use Rattle.walk_rules.specs.Theorem as walk
+use Rattle.walk_rules.proofs.Theorem as walk
 
 -- ── a lent response r that reads as a basic one ──
 module _ (r : Bor (List ℕ)) (b : Basic) (o : Octets r.now) (le : length r.now ≤ 16384) (e : reading r.now ≡ reads (basic b)) where

@@ -34,7 +34,7 @@ use Rattle.read_content.specs.declared.Spot.TheVariants as spot
 use Rattle.read_codes.specs.declared.Code.{Code}
 use Rattle.read_codes.specs.declared.Code.TheVariants as code
 use Rattle.read_envelope.specs.Cover.{covered, cover_by, cover_of, bytes_of, covered_by, broken_at}
-use Rattle.read_envelope.specs.CoverLaws.{cover_broken, cover_wrong, cover_closed}
+use Rattle.read_envelope.proofs.CoverLaws.{cover_broken, cover_wrong, cover_closed}
 use Rattle.read_envelope.specs.declared.Cover.{Cover}
 use Rattle.read_envelope.specs.declared.Cover.TheVariants as cover
 

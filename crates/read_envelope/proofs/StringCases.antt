@@ -21,7 +21,7 @@ use Rattle.read_content.specs.SpotLaws.{spot_reads, spot_wrong}
 use Rattle.read_content.specs.declared.Spot.{Spot}
 use Rattle.read_content.specs.declared.Spot.TheVariants as spot
 use Rattle.read_envelope.specs.Cover.{type_string, covered, cover_by, bytes_of}
-use Rattle.read_envelope.specs.CoverLaws.{only_wrong, only_fills, only_left}
+use Rattle.read_envelope.proofs.CoverLaws.{only_wrong, only_fills, only_left}
 use Rattle.read_envelope.specs.declared.Cover.TheVariants as cover
 
 module _ (s : List ℕ) (r : Spot) (q : r ≡ spot_of (oid.dec s)) where

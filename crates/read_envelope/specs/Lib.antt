@@ -1,2 +1,1 @@
 pub mod Cover
-pub mod CoverLaws

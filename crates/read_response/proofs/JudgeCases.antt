@@ -27,7 +27,7 @@ use Rattle.read_content.specs.ExpectLaws.{never, tagged_wrong, content_end, cont
 use Rattle.read_content.specs.declared.Spot.{Spot}
 use Rattle.read_content.specs.declared.Spot.TheVariants as spot
 use Rattle.read_envelope.specs.Cover.{cover_of}
-use Rattle.read_envelope.specs.CoverLaws.{only_wrong, only_fills, only_left, cover_broken, cover_failed, cover_holds}
+use Rattle.read_envelope.proofs.CoverLaws.{only_wrong, only_fills, only_left, cover_broken, cover_failed, cover_holds}
 use Rattle.read_envelope.specs.declared.Cover.{Cover}
 use Rattle.read_envelope.specs.declared.Cover.TheVariants as cover
 use Rattle.read_response.specs.Parts.{parts_from, judged_as, judged_of}

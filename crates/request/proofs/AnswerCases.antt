@@ -20,7 +20,7 @@ use Rattle.fields.specs.declared.Output.TheVariants.{Octets, Refused}
 use Rattle.fields.specs.Output.{output_of, output_in}
 use Rattle.fields.specs.OutputLaws.{output_refused, output_short, output_written, kept_refused, kept_short}
 use Rattle.request.specs.Request.{request_of, request_refusal}
-use Rattle.request.specs.RequestLaws.{request_length}
+use Rattle.request.proofs.RequestLaws.{request_length}
 
 -- ---- the serial in its field of twenty octets
 

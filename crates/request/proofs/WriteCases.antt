@@ -12,9 +12,10 @@ use Rattle.octets.specs.BufferLaws.{splice_length, splice_take, splice_drop, spl
 use Rattle.element.specs.LengthLaws.{length_short}
 use Rattle.element.specs.Form.{form_of}
 use Rattle.layout.specs.Sha1.{null_head}
-use Rattle.request.specs.Heads.{element_length, front_form, heads_is}
+use Rattle.request.specs.Heads.{front_form}
+use Rattle.request.proofs.Heads.{element_length, heads_is}
 use Rattle.request.specs.Request.{request_form}
-use Rattle.request.specs.FormLaws.{form_parts}
+use Rattle.request.proofs.FormLaws.{form_parts}
 
 -- ---- writes in a row
 

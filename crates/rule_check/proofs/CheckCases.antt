@@ -19,7 +19,7 @@ use Rattle.read_response.specs.Refusals.{refusal_of}
 use Rattle.rules.specs.declared.Question.{Question}
 use Rattle.rules.specs.Question.{in_range}
 use Rattle.rules.specs.Ruling.{answer_of}
-use Rattle.rules.specs.RefusalLaws.{out_of_range}
+use Rattle.rules.proofs.RefusalLaws.{out_of_range}
 use Rattle.rule_response.specs.declared.Opened.{Opened}
 use Rattle.rule_response.specs.declared.Opened.TheVariants.{Refused, Clear}
 use Rattle.rule_response.specs.Opened.{opened_of}

@@ -27,7 +27,7 @@ use Rattle.layout.specs.Read.{Outcome, reads, other_type, unfit}
 use Rattle.layout.proofs.Read.{reading}
 use Rattle.layout.proofs.Theorem.{sound}
 use Rattle.read_response.specs.Parts.{parts_from, judged_as, judged_of}
-use Rattle.read_response.specs.PartsLaws.{entries_stand}
+use Rattle.read_response.proofs.PartsLaws.{entries_stand}
 use Rattle.read_response.specs.declared.Parts.{Parts}
 use Rattle.read_response.specs.Refusals.{refusal_of}
 use Rattle.read_response.specs.declared.Judged.{Judged}
@@ -37,10 +37,10 @@ use Rattle.answer.specs.Card.{serial_in}
 use Rattle.answer.specs.CardLaws.{field_exactly}
 use Rattle.answer.specs.declared.Card.{Card}
 use Rattle.rule_matching.specs.Match.{is_for}
-use Rattle.rule_matching.specs.MatchLaws.{hash_twenty}
+use Rattle.rule_matching.proofs.MatchLaws.{hash_twenty}
 use Rattle.rule_search.specs.Search.{found_of, for_card}
-use Rattle.rule_search.specs.SearchLaws.{search_reads}
-use Rattle.rule_search.specs.FoundLaws.{found_none, found_one, found_two}
+use Rattle.rule_search.proofs.SearchLaws.{search_reads}
+use Rattle.rule_search.proofs.FoundLaws.{found_none, found_one, found_two}
 use Rattle.rule_search.specs.declared.Found.{Found}
 use Rattle.rule_search.specs.declared.Found.TheVariants as found
 use Rattle.rules.specs.declared.Question.{Question}
@@ -48,8 +48,8 @@ use Rattle.rules.specs.Question.{in_range}
 use Rattle.rules.specs.Signer.{is_signer, in_response, strange_in}
 use Rattle.rules.specs.Order.{entries_for, lacks_mark}
 use Rattle.rules.specs.Ruling.{answer_of}
-use Rattle.rules.specs.AcceptedLaws.{range_exactly}
-use Rattle.rules.specs.RowLaws.{row_2, row_3, row_4, row_5, row_6, row_7, row_8, row_9, row_10, row_11}
+use Rattle.rules.proofs.AcceptedLaws.{range_exactly}
+use Rattle.rules.proofs.RowLaws.{row_2, row_3, row_4, row_5, row_6, row_7, row_8, row_9, row_10, row_11}
 use Rattle.rule_response.specs.Opened.{number_opened, parts_opened, opened_by, opened_of}
 use Rattle.rule_response.specs.OpenedLaws.{part_short, refusal_is}
 use Rattle.rule_check.specs.EntryRuled.{seen_ruled}

@@ -28,8 +28,8 @@ use Rattle.rules.specs.Question.{in_range}
 use Rattle.rules.specs.Signer.{is_signer, in_response, in_entry, strange_in}
 use Rattle.rules.specs.Order.{entries_for, lacks_mark, next_in, missed}
 use Rattle.rules.specs.Ruling.{said, answer_of}
-use Rattle.rules.specs.TimesLaws.{missed_13}
-use Rattle.rules.specs.RowLaws.{row_12, row_13, row_14, row_15, row_16, row_none}
+use Rattle.rules.proofs.TimesLaws.{missed_13}
+use Rattle.rules.proofs.RowLaws.{row_12, row_13, row_14, row_15, row_16, row_none}
 use Rattle.rule_check.specs.EntryRuled.{reason_for, verdict_for, fresh_ruled, until_ruled, view_ruled, seen_ruled, entry_ruled}
 
 -- ── a status ──

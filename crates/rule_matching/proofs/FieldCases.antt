@@ -13,7 +13,7 @@ use Rattle.octets.specs.SameLaws.{same_true}
 use Rattle.element.specs.Form.{form_of}
 use Rattle.layout.specs.Sha1.{plain_head, null_head}
 use Rattle.rule_matching.specs.CertForm.{card_form, is_card_octets, last_of, is_fields}
-use Rattle.rule_matching.specs.FieldsLaws.{fields_card}
+use Rattle.rule_matching.proofs.FieldsLaws.{fields_card}
 use Rattle.rule_matching.proofs.FormCases.{short_form, short_length}
 
 -- ---- the last octet

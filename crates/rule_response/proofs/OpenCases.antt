@@ -18,7 +18,7 @@ use Rattle.layout.proofs.Read.{reading}
 use Rattle.layout.proofs.Format.{basic_body}
 use Rattle.read_critical.specs.Strange.{strange_of}
 use Rattle.read_response.specs.Parts.{parts_from, judged_of}
-use Rattle.read_response.specs.PartsLaws.{responder_stands, extensions_stand}
+use Rattle.read_response.proofs.PartsLaws.{responder_stands, extensions_stand}
 use Rattle.read_response.specs.declared.Span.{Span}
 use Rattle.read_response.specs.declared.Parts.{Parts}
 use Rattle.read_response.specs.declared.Judged.{Judged}

@@ -21,7 +21,7 @@ use Rattle.layout.proofs.Theorem.{sound}
 use Rattle.read_content.specs.ExpectLaws.{never}
 use Rattle.read_critical.specs.Strange.{strange_of}
 use Rattle.read_response.specs.Parts.{parts_from, judged_as, judged_of}
-use Rattle.read_response.specs.PartsLaws.{responder_stands, entries_stand, extensions_stand}
+use Rattle.read_response.proofs.PartsLaws.{responder_stands, entries_stand, extensions_stand}
 use Rattle.read_response.specs.Stands.{Stands}
 use Rattle.read_response.specs.declared.Span.{Span}
 use Rattle.read_response.specs.declared.Parts.{Parts}

@@ -22,7 +22,7 @@ use Rattle.read_content.specs.declared.Spot.TheVariants.{At, Wrong}
 use Rattle.read_entry.specs.Ids.{spot_moved, cert_in, cert_spot}
 use Rattle.answer.specs.declared.Card.{Card}
 use Rattle.rule_matching.specs.CertForm.{is_card, is_fields}
-use Rattle.rule_matching.specs.FieldsLaws.{fields_card}
+use Rattle.rule_matching.proofs.FieldsLaws.{fields_card}
 use Rattle.rule_search.specs.Search.{is_at, is_here, card_with, begins_with, seen_of}
 use Rattle.rule_search.specs.declared.Seen.{Seen}
 use Rattle.rule_search.specs.declared.Seen.TheVariants.{End, Next}

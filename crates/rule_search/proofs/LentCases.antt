@@ -18,7 +18,7 @@ use Rattle.read_entry.specs.Ids.{cert_spot}
 use Rattle.answer.specs.declared.Card.{Card}
 use Rattle.answer.specs.Card.{serial_in}
 use Rattle.rule_matching.specs.CertForm.{sha1_heads, is_card_octets}
-use Rattle.rule_matching.specs.FieldsLaws.{serial_taken}
+use Rattle.rule_matching.proofs.FieldsLaws.{serial_taken}
 use Rattle.rule_search.specs.Search.{is_at, is_here, noted, is_two, on_header, search_from, search_of, card_with}
 use Rattle.rule_search.specs.declared.Found.{Found}
 use Rattle.rule_search.specs.declared.Found.TheVariants.{None}

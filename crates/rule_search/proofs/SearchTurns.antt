@@ -18,7 +18,7 @@ use Rattle.element.specs.declared.Header.TheVariants as header
 use Rattle.read_content.specs.ExpectLaws.{never}
 use Rattle.answer.specs.declared.Card.{Card}
 use Rattle.rule_search.specs.Search.{is_here, noted, is_two, on_header, search_from, search_of, seen_of}
-use Rattle.rule_search.specs.SearchLaws.{none_left}
+use Rattle.rule_search.proofs.SearchLaws.{none_left}
 use Rattle.rule_search.specs.declared.Found.{Found}
 use Rattle.rule_search.specs.declared.Found.TheVariants.{None}
 use Rattle.rule_search.specs.declared.Seen.{Seen}

@@ -1,23 +1,20 @@
 -- The check by computing, from the octets: the case of document 01's program, M11, and what must be refused.
 -- checked; card, question_at; failure, desk_case; unfit_status, unfit_placed; response, answered, m11_passes, m11_late, m11_tolerated; other_issuer, too_tolerant.
 -- Assumes nothing.
-use Rattle.std.specs.Prelude.{ℕ, ◌≡◌, refl, false, List, [], ◌∷◌, ◌++◌, replicate}
+use Rattle.std.specs.Prelude.{ℕ, false, List, [], ◌∷◌, ◌++◌, replicate}
 use Rattle.std.proofs.Math.Option.{none, some}
 use Rattle.octets.specs.Number.{value_of}
 use Rattle.octets.specs.Same.{same_of}
 use Rattle.content.specs.Serial.{lead_ok, serial_ok}
 use Rattle.calendar.specs.Examples.{text}
 use Rattle.codec.specs.Tree.{prim}
-use Rattle.layout.specs.Reading.{good, by_key, Basic, failed, basic}
-use Rattle.layout.specs.Read.{basic_type, reads, unfit}
-use Rattle.layout.proofs.Read.{reading}
-use Rattle.layout.proofs.Opened.{opened}
+use Rattle.layout.specs.Reading.{good, by_key, Basic}
+use Rattle.layout.specs.Read.{basic_type}
 use Rattle.layout.specs.Sha1.{sha1}
 use Rattle.freshness.specs.Fresh.{fresh_of}
 use Rattle.answer.specs.Card.{all_zero, field_ok}
-use Rattle.answer.specs.Verdict.{saying, refused_at, refused}
+use Rattle.answer.specs.Verdict.{refused}
 use Rattle.answer.specs.declared.Card.{Card}
-use Rattle.answer.specs.declared.Verdict.TheVariants.{Good}
 use Rattle.answer.specs.declared.Place.TheVariants as place
 use Rattle.rule_matching.specs.Match.{matches}
 use Rattle.rules.specs.declared.Question.{Question}
@@ -25,7 +22,6 @@ use Rattle.rules.specs.Question.{in_range}
 use Rattle.rules.specs.Signer.{is_signer, strange}
 use Rattle.rules.specs.Order.{entries_for, tests, first_of}
 use Rattle.rules.specs.Ruling.{answer_of}
-use Rattle.rules.specs.RefusalLaws.{out_of_range}
 
 -- what the check computes with once a response is read: a proof that says `unfolding checked` opens it
 unfoldable pub checked : Unit {0}
@@ -44,28 +40,9 @@ question_at now tolerance = record { card = card; now = now; tolerance = toleran
 abbrev pub failure : List ℕ
 failure = 0x30 ∷ 0x03 ∷ 0x0a ∷ 0x01 ∷ 0x06 ∷ []
 
-pub failure_read : reading failure ≡ reads (failed 6)
-unfolding opened
-failure_read = refl
-
--- the case: now 1,114,909,200, tolerance 0, Name empty
-pub desk_case : answer_of (question_at 1114909200 0) [] failure ≡ refused 4 6
-unfolding checked
-desk_case = rw failure_read
-
 -- status 4 does not fit: the place is that of the status
 abbrev pub unfit_status : List ℕ
 unfit_status = 0x30 ∷ 0x03 ∷ 0x0a ∷ 0x01 ∷ 0x04 ∷ []
-
-pub unfit_read : reading unfit_status ≡ unfit 2
-unfolding opened
-unfit_read = refl
-
-pub unfit_placed : answer_of (question_at 1114909200 0) [] unfit_status ≡ refused_at 3 0 (place.At 2)
-unfolding checked
-unfit_placed = rw unfit_read
-
--- ---- M11: one good entry for the card, thisUpdate 20050501010000Z and nextUpdate 20050503010000Z, signed by the key 33..
 
 abbrev pub response : List ℕ
 response =
@@ -108,42 +85,3 @@ answered = record {
   signature = 0xaa ∷ [];
   certificates = none;
 }
-
-pub response_read : reading response ≡ reads (basic answered)
-unfolding opened
-response_read = refl
-
--- with tolerance 0 now 1,115,082,000 passes
-pub m11_passes : answer_of (question_at 1115082000 0) [] response ≡ saying (Good 1114909200 1115082000) card
-unfolding checked
-m11_passes = rw response_read
-
--- one more gives 16
-pub m11_late : answer_of (question_at 1115082001 0) [] response ≡ refused 16 0
-unfolding checked
-m11_late = rw response_read
-
--- with tolerance 1 it passes
-pub m11_tolerated : answer_of (question_at 1115082001 1) [] response ≡ saying (Good 1114909200 1115082000) card
-unfolding checked
-m11_tolerated = rw response_read
-
--- ---- other refusals
-
--- the same serial of another issuer: no entry is for that card
-pub other_issuer : answer_of (record {
-  card = record { name = replicate 20 0x44; key = card.key; serial = card.serial; size = 1 };
-  now = 1115082000;
-  tolerance = 0;
-  verdict = 1;
-  role = 1;
-  marks = 0;
-  signer = replicate 20 0x33;
-}) [] response ≡ refused 10 0
-unfolding checked
-other_issuer = rw response_read
-
--- a tolerance of 3,601 gives 1, whatever the response is
-pub too_tolerant : (s : List ℕ) → answer_of (question_at 1115082000 3601) [] s ≡ refused 1 0
-unfolding checked
-too_tolerant s = out_of_range (question_at 1115082000 3601) [] s refl

@@ -3,17 +3,6 @@ pub mod Signer
 pub mod Order
 pub mod Ruling
 pub mod Rows
-pub mod OrderLaws
 pub mod Accepted
-pub mod AcceptedLaws
-pub mod TimesLaws
-pub mod ClearLaws
-pub mod RulingLaws
-pub mod RefusalLaws
-pub mod RowLaws
 pub mod OneCard
-pub mod EntriesLaws
-pub mod OneCardLaws
-pub mod PlainLaws
-pub mod EarlyLaws
 pub mod Examples

@@ -17,12 +17,13 @@ use Rattle.element.specs.declared.Header.TheVariants as header
 use Rattle.codec.specs.Many.{forms}
 use Rattle.layout.proofs.Format.{single_response}
 use Rattle.read_response.specs.Parts.{parts_from, judged_of, parts_in}
-use Rattle.read_response.specs.PartsLaws.{entries_stand}
-use Rattle.read_response.specs.JudgedLaws.{Reads, judged_basic}
+use Rattle.read_response.proofs.PartsLaws.{entries_stand}
+use Rattle.read_response.specs.JudgedLaws.{Reads}
+use Rattle.read_response.proofs.JudgedLaws.{judged_basic}
 use Rattle.show.specs.Shown.{refused_entry, entry_of}
 use Rattle.show.specs.Steps.{step_size, steps_size, spot_after}
-use Rattle.show.specs.StepsLaws.{step_inside, steps_inside, steps_more, entry_after}
-use Rattle.show.specs.EntryLaws.{entry_refused, entry_shown, entry_past}
+use Rattle.show.proofs.StepsLaws.{step_inside, steps_inside, steps_more, entry_after}
+use Rattle.show.proofs.EntryLaws.{entry_refused, entry_shown, entry_past}
 use Rattle.read_response.specs.declared.Parts.{Parts}
 use Rattle.read_response.specs.declared.Judged.{Judged}
 use Rattle.read_response.specs.declared.Judged.TheVariants as judged

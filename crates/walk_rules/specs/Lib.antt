@@ -3,5 +3,3 @@ pub mod StepLaws
 pub mod Walked
 pub mod Handed
 pub mod HandedLaws
-pub mod Theorem
-pub mod Examples

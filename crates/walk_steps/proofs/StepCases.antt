@@ -13,7 +13,7 @@ use Rattle.show.specs.Shown.{octets_in, entry_of}
 use Rattle.show.specs.declared.Entry.{Entry}
 use Rattle.show.specs.declared.Entry.TheVariants as entry
 use Rattle.walk_rules.specs.Step.{part_in, place_after, place_next, walk_step}
-use Rattle.walk_rules.specs.StepLaws.{has_few}
+use Rattle.walk_rules.proofs.StepLaws.{has_few}
 use Rattle.walk_rules.specs.declared.Advance.{Advance}
 
 -- a step, by what is said and by the place after it

@@ -1,6 +1,6 @@
 -- `show::parts::signature` meets its contract. Assumes nothing.
 use borrow.Author.Rules.{rules}
-use Rattle.show.specs.PartsLaws.{signature_octets}
+use Rattle.show.proofs.PartsLaws.{signature_octets}
 use Rattle.show.proofs.parts.signature.Statement.{statement}
 use Rattle.show.proofs.parts.signature.Tie as tie
 

@@ -1,6 +1,6 @@
 -- `show::parts::signed_part` meets its contract. Assumes nothing.
 use borrow.Author.Rules.{rules}
-use Rattle.show.specs.PartsLaws.{signed_octets}
+use Rattle.show.proofs.PartsLaws.{signed_octets}
 use Rattle.show.proofs.parts.signed_part.Statement.{statement}
 use Rattle.show.proofs.parts.signed_part.Tie as tie
 

@@ -1,0 +1,16 @@
+pub mod AfterLaws
+pub mod AskLaws
+pub mod AskTheorem
+pub mod CacheLaws
+pub mod Examples
+pub mod FileTheorem
+pub mod FilingLaws
+pub mod FitLaws
+pub mod HeldLaws
+pub mod ManyTheorem
+pub mod NumberLaws
+pub mod OtherCardLaws
+pub mod OutcomeTheorem
+pub mod PlaceLaws
+pub mod RefusalLaws
+pub mod RefusalTheorem

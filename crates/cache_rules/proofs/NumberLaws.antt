@@ -1,0 +1,114 @@
+-- Laws of the numbers: what a filing and an ask answer, told from its number.
+-- filed_number_lem; asked_number_lem.
+-- The definitions are in Numbers. Assumes nothing.
+use Rattle.std.specs.Prelude.{ℕ, ◌<◌, ◌↔◌, ◌≡◌, refl, Bool, true, false, cond, List, eqb}
+use Rattle.std.proofs.Common.{arith, sym, ap, ◌∙◌}
+use Rattle.std.proofs.lemmas.Bool.{eqb-false}
+use Rattle.octets.specs.Octets.{Octets}
+use Rattle.answer.specs.declared.Card.{Card}
+use Rattle.answer.specs.declared.Answer.{Answer}
+use Rattle.answer.specs.declared.Verdict.{Verdict}
+use Rattle.answer.specs.declared.Verdict.TheVariants as verdict
+use Rattle.answer.specs.Verdict.{kind_of, number_of, refused}
+use Rattle.answer.specs.VerdictLaws.{refused_number}
+use Rattle.freshness.specs.declared.Clock.{Clock}
+use Rattle.cache_room.specs.Room.{count}
+use Rattle.cache_rules.specs.declared.Filed.TheVariants.{Count, Refused}
+use Rattle.cache_rules.specs.declared.Told.{Told}
+use Rattle.cache_rules.specs.Place.{card_at, says_at, is_said}
+use Rattle.cache_rules.proofs.PlaceLaws.{said_kind}
+use Rattle.cache_rules.specs.Cache.{place_in, filing_refusal, room_after, filed_of, told, not_held, ask_of}
+use Rattle.cache_rules.proofs.AskLaws.{told_verdict, told_held}
+use Rattle.cache_rules.proofs.OutcomeTheorem.{outcome}
+use Rattle.cache_rules.specs.Numbers.{filed_number, asked_number}
+
+-- ---- filing
+
+-- 0 exactly if it is accepted, another number exactly if it is refused with that number
+pub filed_number_lem : (clock : Clock) (s t : List ℕ)
+    → (filed_number (filed_of clock s t) ≡ 0 ↔ (n : ℕ) × (filed_of clock s t ≡ Count n))
+    × ((n : ℕ) → 0 < n → filed_number (filed_of clock s t) ≡ n ↔ filed_of clock s t ≡ Refused n)
+unfolding filed_of
+filed_number_lem clock s t = go (eqb (filing_refusal clock s t) 0) refl
+  where
+    go : (u : Bool) → eqb (filing_refusal clock s t) 0 ≡ u
+        → (filed_number (cond u (Count (count card_at (room_after clock s t))) (Refused (filing_refusal clock s t))) ≡ 0
+        ↔ (n : ℕ) × (cond u (Count (count card_at (room_after clock s t))) (Refused (filing_refusal clock s t)) ≡ Count n))
+        × ((n : ℕ) → 0 < n
+        → filed_number (cond u (Count (count card_at (room_after clock s t))) (Refused (filing_refusal clock s t))) ≡ n
+        ↔ cond u (Count (count card_at (room_after clock s t))) (Refused (filing_refusal clock s t)) ≡ Refused n)
+    go true q = (
+      (λ e. (count card_at (room_after clock s t), refl), λ h. refl),
+      λ n b. (λ e. absurd (omega arith), λ e. let z : ◌≡◌ {A = ℕ} 0 1 = cc e in absurd (omega arith)),
+    )
+    go false q = (
+      (λ e. absurd (eqb-false (filing_refusal clock s t) 0 q e), λ (n, e). let z : ◌≡◌ {A = ℕ} 0 1 = cc e in absurd (omega arith)),
+      λ n b. (λ e. ap Refused e, λ e. ap filed_number e),
+    )
+
+-- ---- asking
+
+-- what a number says of what is told: 256 not held, 0 an answer of kind 01 to 03, another one the refusal that has it
+abbrev Numbered : Told → Type 0
+Numbered x =
+    (asked_number x.asked ≡ 256 ↔ x ≡ not_held)
+    × (asked_number x.asked ≡ 0 ↔ (a : Answer) × (kind_of a.verdict < 4) × (x ≡ told a))
+    × ((n : ℕ) → 0 < n → n < 256 → asked_number x.asked ≡ n ↔ x ≡ told (refused n 0))
+
+number_told_lem : (a : Answer) → asked_number (told a).asked ≡ number_of a.verdict
+unfolding told
+number_told_lem a = refl
+
+number_none : asked_number not_held.asked ≡ 256
+unfolding not_held
+number_none = refl
+
+-- a verdict of kind 01 to 03 has no number
+said_number : (v : Verdict) → kind_of v < 4 → number_of v ≡ 0
+said_number (verdict.Good this next) h = refl
+said_number (verdict.Revoked this next at reason) h = refl
+said_number (verdict.Unknown this next) h = refl
+said_number (verdict.Refused number status) h = absurd (omega arith)
+
+of_refusal : (m : ℕ) → 0 < m → m < 256 → Numbered (told (refused m 0))
+of_refusal m l b =
+    let e : asked_number (told (refused m 0)).asked ≡ m = number_told_lem (refused m 0) ∙ refused_number m 0 in (
+      (λ q. absurd (omega arith), λ q. absurd (told_held (refused m 0) q)),
+      (
+        λ q. absurd (omega arith),
+        λ (a, k, q). absurd (omega (arith, said_number a.verdict k, ap number_of (told_verdict (refused m 0) a q), refused_number m 0)),
+      ),
+      λ n g h. (λ q. ap (λ (x : ℕ). told (refused x 0)) (sym e ∙ q), λ q. ap (λ (x : Told). asked_number x.asked) q ∙ number_told_lem (refused n 0) ∙ refused_number n 0),
+    )
+
+of_none : Numbered not_held
+of_none = (
+  (λ q. refl, λ q. number_none),
+  (λ q. absurd (omega (arith, number_none)), λ (a, k, q). absurd (told_held a (sym q))),
+  λ n g h. (λ q. absurd (omega (arith, number_none)), λ q. absurd (told_held (refused n 0) (sym q))),
+)
+
+of_answer : (a : Answer) → is_said a ≡ true → Numbered (told a)
+of_answer a d =
+    let k = said_kind a d in
+    let e : asked_number (told a).asked ≡ 0 = number_told_lem a ∙ said_number a.verdict k in (
+      (λ q. absurd (omega arith), λ q. absurd (told_held a q)),
+      (λ q. (a, k, refl), λ h. e),
+      λ n g h. (
+        λ q. absurd (omega arith),
+        λ q. absurd (omega (arith, refused_number n 0, ap number_of (told_verdict a (refused n 0) q), said_number a.verdict k)),
+      ),
+    )
+
+pub asked_number_lem : (clock : Clock) (card : Card) (s : List ℕ) → Octets s
+    → (asked_number (ask_of clock card s).asked ≡ 256 ↔ ask_of clock card s ≡ not_held)
+    × (asked_number (ask_of clock card s).asked ≡ 0 ↔ (a : Answer) × (kind_of a.verdict < 4) × (ask_of clock card s ≡ told a))
+    × ((n : ℕ) → 0 < n → n < 256 → asked_number (ask_of clock card s).asked ≡ n ↔ ask_of clock card s ≡ told (refused n 0))
+asked_number_lem clock card s o =
+    outcome clock card s o (Numbered (ask_of clock card s))
+    (λ c q. rw q (of_refusal 19 (omega arith) (omega arith)))
+    (λ c h q. rw q (of_refusal 1 (omega arith) (omega arith)))
+    (λ q. rw q of_none)
+    (λ q. rw q (of_refusal 15 (omega arith) (omega arith)))
+    (λ q. rw q (of_refusal 16 (omega arith) (omega arith)))
+    (λ i h f d q. rw q (of_answer (says_at (place_in s i)) d))

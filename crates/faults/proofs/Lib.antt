@@ -1,0 +1,11 @@
+pub mod AscendLaws
+pub mod ContentLaws
+pub mod DistinctLaws
+pub mod Examples
+pub mod HeadLaws
+pub mod ItemLaws
+pub mod OrderLaws
+pub mod PartLaws
+pub mod PlacedLaws
+pub mod RowLaws
+pub mod Theorem

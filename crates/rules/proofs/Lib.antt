@@ -1,0 +1,12 @@
+pub mod AcceptedLaws
+pub mod ClearLaws
+pub mod EarlyLaws
+pub mod EntriesLaws
+pub mod Examples
+pub mod OneCardLaws
+pub mod OrderLaws
+pub mod PlainLaws
+pub mod RefusalLaws
+pub mod RowLaws
+pub mod RulingLaws
+pub mod TimesLaws

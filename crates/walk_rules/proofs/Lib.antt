@@ -1,0 +1,4 @@
+pub mod Examples
+pub mod HandedLaws
+pub mod StepLaws
+pub mod Theorem
