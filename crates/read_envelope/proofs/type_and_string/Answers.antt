@@ -4,35 +4,35 @@ use borrow.Author.Rules.{rules}
 use Rattle.read_envelope.proofs.StringCases.{type_wrong, type_sum, type_end, string_place, string_from, string_to, string_wrong, string_fills, string_left}
 use Rattle.read_envelope.proofs.type_and_string.Goals as goal
 
-pub UNKNOWN-3 : goal.UNKNOWN-3
-UNKNOWN-3 c = search type_sum
+pub overflow_add-end : goal.overflow_add-end
+overflow_add-end c = search (type_sum, type_end, string_place, string_from, string_to, type_wrong, string_wrong, string_fills, string_left)
 
-pub UNKNOWN-6 : goal.UNKNOWN-6
-UNKNOWN-6 c = search type_end
+pub slice_bounds-same-end : goal.slice_bounds-same-end
+slice_bounds-same-end c = search (type_sum, type_end, string_place, string_from, string_to, type_wrong, string_wrong, string_fills, string_left)
 
-pub UNKNOWN-9 : goal.UNKNOWN-9
-UNKNOWN-9 c = search type_end
+pub slice_bounds-read_any_string-count : goal.slice_bounds-read_any_string-count
+slice_bounds-read_any_string-count c = search (type_sum, type_end, string_place, string_from, string_to, type_wrong, string_wrong, string_fills, string_left)
 
-pub UNKNOWN-10 : goal.UNKNOWN-10
-UNKNOWN-10 c = search type_end
+pub slice_bounds-read_any_string-start : goal.slice_bounds-read_any_string-start
+slice_bounds-read_any_string-start c = search (type_sum, type_end, string_place, string_from, string_to, type_wrong, string_wrong, string_fills, string_left)
 
-pub UNKNOWN-14 : goal.UNKNOWN-14
-UNKNOWN-14 c = search string_place
+pub overflow_add-place : goal.overflow_add-place
+overflow_add-place c = search (type_sum, type_end, string_place, string_from, string_to, type_wrong, string_wrong, string_fills, string_left)
 
-pub UNKNOWN-16 : goal.UNKNOWN-16
-UNKNOWN-16 c = search string_from
+pub overflow_add-from : goal.overflow_add-from
+overflow_add-from c = search (type_sum, type_end, string_place, string_from, string_to, type_wrong, string_wrong, string_fills, string_left)
 
-pub UNKNOWN-17 : goal.UNKNOWN-17
-UNKNOWN-17 c = search string_to
+pub overflow_add-to : goal.overflow_add-to
+overflow_add-to c = search (type_sum, type_end, string_place, string_from, string_to, type_wrong, string_wrong, string_fills, string_left)
 
-pub UNKNOWN-18 : goal.UNKNOWN-18
-UNKNOWN-18 c = search type_wrong
+pub returns-in-Wrong : goal.returns-in-Wrong
+returns-in-Wrong c = search (type_sum, type_end, string_place, string_from, string_to, type_wrong, string_wrong, string_fills, string_left)
 
-pub UNKNOWN-19 : goal.UNKNOWN-19
-UNKNOWN-19 c = search string_wrong
+pub returns-in-Wrong-string : goal.returns-in-Wrong-string
+returns-in-Wrong-string c = search (type_sum, type_end, string_place, string_from, string_to, type_wrong, string_wrong, string_fills, string_left)
 
-pub UNKNOWN-20 : goal.UNKNOWN-20
-UNKNOWN-20 c = search string_fills
+pub returns-then-to-s : goal.returns-then-to-s
+returns-then-to-s c = search (type_sum, type_end, string_place, string_from, string_to, type_wrong, string_wrong, string_fills, string_left)
 
-pub UNKNOWN-21 : goal.UNKNOWN-21
-UNKNOWN-21 c = search string_left
+pub returns-else-to-s : goal.returns-else-to-s
+returns-else-to-s c = search (type_sum, type_end, string_place, string_from, string_to, type_wrong, string_wrong, string_fills, string_left)
