@@ -10,7 +10,6 @@ use Prim.Native.Nat.{ℕ, ◌+◌, ◌≤◌}
 use Rattle.std.specs.Prelude.{◌≡◌}
 use mathlib.Core.List.{List, [], ◌∷◌}
 use Rattle.std.proofs.Math.Option.{Option, some, none}
-use mir.Val as val
 use Rattle.codec.specs.Codec.{Read, read, broke}
 use Rattle.codec.specs.Outcome.{further}
 

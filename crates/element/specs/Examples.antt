@@ -1,13 +1,12 @@
 -- Marked examples of document 01: M7 and M8, and headers that are refused.
 -- Assumes nothing.
-use Rattle.std.specs.Prelude.{ℕ, ◌≡◌, refl, List, [], ◌∷◌}
+use Rattle.std.specs.Prelude.{◌≡◌, refl, [], ◌∷◌}
 use Rattle.std.specs.Int.Count.{count_leading_zeros}
 use Rattle.octets.specs.Number.{octets_of, value_of}
 use Rattle.element.specs.Tag.{tag_ok}
 use Rattle.element.specs.Length.{length_count, length_form, shortest}
-use Rattle.element.specs.Header.{inside_of, long_of, length_at, header_of}
-use Rattle.element.specs.declared.Header.{Header}
-use Rattle.element.specs.declared.Header.TheVariants.{Found, Refused}
+use Rattle.element.specs.Header.{long_of, length_at, header_of}
+use Rattle.element.specs.declared.Header.TheVariants.{Refused}
 
 -- M7: length 127 is 7F, 128 is 81 80, 256 is 82 01 00
 one_octet_lem : length_form 127 ≡ 0x7f ∷ []

@@ -1,7 +1,7 @@
 -- The octets of an element, and what writing a header leaves in a lent buffer.
 -- head_form, head_size, form_of; room_answer, header_in, header_answer.
 -- Assumes nothing.
-use Rattle.std.specs.Prelude.{ℕ, ◌+◌, List, ◌∷◌, ◌++◌, Bool, true, false, cond, length}
+use Rattle.std.specs.Prelude.{ℕ, ◌+◌, List, ◌∷◌, ◌++◌, cond, length}
 use Rattle.octets.specs.Buffer.{room_for, put_in}
 use Rattle.element.specs.Tag.{tag_ok}
 use Rattle.element.specs.Length.{length_form}

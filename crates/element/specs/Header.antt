@@ -4,7 +4,7 @@
 -- The octets count as they are met: a wrong one refuses the tag's own place, 0; a missing one the
 -- end of the list.
 -- Assumes nothing.
-use Rattle.std.specs.Prelude.{ℕ, ◌+◌, ◌-◌, List, Bool, true, false, cond, ◌&&◌, ltb, leb, eqb, length, get_or, take, drop}
+use Rattle.std.specs.Prelude.{ℕ, ◌+◌, ◌-◌, List, Bool, cond, ◌&&◌, ltb, leb, eqb, length, get_or, take, drop}
 use Rattle.octets.specs.Number.{value_of}
 use Rattle.element.specs.Tag.{tag_ok}
 use Rattle.element.specs.Length.{shortest}

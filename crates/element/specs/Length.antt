@@ -1,7 +1,7 @@
 -- The length octets of an element in their one form (X.690, 8.1.3 and 10.1).
 -- length_count, length_form, shortest.
 -- Assumes nothing.
-use Rattle.std.specs.Prelude.{ℕ, ◌+◌, ◌-◌, ◌/◌, List, [], ◌∷◌, Bool, true, false, cond, ltb, eqb}
+use Rattle.std.specs.Prelude.{ℕ, ◌+◌, ◌-◌, ◌/◌, List, [], ◌∷◌, Bool, false, cond, ltb, eqb}
 use Rattle.std.specs.Int.Count.{count_leading_zeros}
 use Rattle.octets.specs.Number.{octets_of}
 

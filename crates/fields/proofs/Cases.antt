@@ -4,7 +4,7 @@
 use Prim.Native.Nat.{ℕ, ◌+◌, ◌-◌, ◌≤◌, ◌<◌}
 use native.Mathlib.Nat.{zero-add}
 use native.Mathlib.Omega.{arith}
-use mathlib.Core.Path.{◌≡◌, refl, sym, ap, ◌∙◌}
+use mathlib.Core.Path.{◌≡◌, sym, ap, ◌∙◌}
 use mathlib.Core.List.{List, ◌++◌, append-nil}
 use lib.ListN.{length, take, drop, replicate, length-drop}
 use lib.Seq.{length-take-le}
@@ -13,8 +13,6 @@ use Rattle.octets.specs.BufferLaws.{put_in_room}
 use Rattle.octets.specs.Number.{number_at}
 use Rattle.octets.specs.declared.Number.{Number}
 use Rattle.octets.specs.declared.Number.TheVariants.{Is, Outside}
-use Rattle.answer.specs.declared.Card.{Card}
-use Rattle.fields.specs.declared.Output.{Output}
 use Rattle.fields.specs.declared.Output.TheVariants.{Octets, Refused}
 use Rattle.fields.specs.Field.{field_at, known, value_at, card_in}
 use Rattle.fields.specs.FieldLaws.{field_there, field_short}

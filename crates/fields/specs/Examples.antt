@@ -2,7 +2,7 @@
 -- Assumes nothing.
 use Rattle.std.specs.Prelude.{◌≡◌, refl, [], ◌∷◌}
 use Rattle.octets.specs.Buffer.{room_for, put_in}
-use Rattle.fields.specs.declared.Output.TheVariants.{Octets, Refused}
+use Rattle.fields.specs.declared.Output.TheVariants.{Refused}
 use Rattle.fields.specs.Field.{field_at}
 use Rattle.fields.specs.Output.{output_of, output_in}
 

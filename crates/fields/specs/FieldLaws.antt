@@ -2,16 +2,15 @@
 -- field_there, field_short, field_length; value_there; card_there.
 -- The definitions are in Field. Assumes nothing.
 use Rattle.std.specs.Prelude.{ℕ, ◌+◌, ◌≤◌, ◌<◌, ◌≡◌, Bool, cond, List, take, drop, replicate}
-use Rattle.std.proofs.Common.{arith, sym, ap, ◌∙◌}
+use Rattle.std.proofs.Common.{arith, ap}
 use Rattle.std.proofs.Math.Path.{refl}
 use Rattle.std.proofs.Math.Bool.{true, false}
 use Rattle.std.proofs.Math.ListN.{length, length-drop, length-replicate}
 use Rattle.std.proofs.Math.Seq.{length-take-le}
 use Rattle.octets.specs.Buffer.{room_for}
 use Rattle.octets.specs.BufferLaws.{room_le, room_lt, room_true}
-use Rattle.octets.specs.Number.{value_of, number_at}
+use Rattle.octets.specs.Number.{value_of}
 use Rattle.octets.specs.NumberLaws.{number_inside}
-use Rattle.answer.specs.declared.Card.{Card}
 use Rattle.fields.specs.Field.{field_at, known, value_at, card_in}
 
 module _ (n : ℕ) (s : List ℕ) (at : ℕ) where

@@ -8,25 +8,21 @@ use Rattle.std.specs.Prelude.{ℕ, refl, List}
 use Rattle.std.proofs.Math.Option.{Option}
 use Rattle.std.proofs.Common.{lit<}
 use Rattle.codec.specs.Codec.{Whole, Element}
-use Rattle.codec.proofs.Contents.{octets_content}
 use Rattle.codec.proofs.Tagged.{primitive}
 use Rattle.codec.proofs.Sequence.{end, field, only}
 use Rattle.codec.proofs.Maybe.{maybe}
 use Rattle.codec.proofs.Option.{option}
 use Rattle.codec.proofs.Choice.{choice}
-use Rattle.codec.specs.Each.{KeyedElement}
 use Rattle.codec.proofs.Each.{each}
-use Rattle.codec.proofs.Keys.{new_content, keyed_content, keyed_primitive, keyed_field, keyed_mapped, keyed_tagged}
 use Rattle.codec.specs.Starts.{Starts, Other, Apart}
-use Rattle.codec.proofs.StartsLaws.{tagged_starts, primitive_starts, starts_other, only_apart, end_apart, option_apart, choice_other}
-use Rattle.content.specs.Oid.{oid_ok}
+use Rattle.codec.proofs.StartsLaws.{tagged_starts, primitive_starts, starts_other, end_apart, option_apart, choice_other}
 use Rattle.layout.specs.Reading.{Algorithm, CertId, Status, Extension, Entry}
-use Rattle.layout.specs.Names.{algorithm, cert, extension_of, extension_parts}
-use Rattle.layout.proofs.Names.{status, extension, extension_named, extension_parted, entry}
+use Rattle.layout.specs.Names.{algorithm, cert}
+use Rattle.layout.proofs.Names.{status, entry}
 use Rattle.layout.specs.Words as words
 unfoldable pub use Rattle.layout.proofs.ExtensionFormat.{new_oid, critical, extension_body, extension_after}
 pub use Rattle.layout.proofs.ExtensionFormat.{critical_starts, value_apart, extension_keyed}
-use Rattle.layout.proofs.ElementKinds.{sequence, zero, one, string, enumerated, optional, free, time, serial, oid, hash, tag_01, tag_04, tag_06, tag_30, tag_80, tag_82, tag_a0, tag_a1}
+use Rattle.layout.proofs.ElementKinds.{sequence, zero, one, enumerated, optional, free, time, serial, oid, hash, tag_80, tag_82, tag_a0, tag_a1}
 
 -- AlgorithmIdentifier ::= SEQUENCE { algorithm OBJECT IDENTIFIER, parameters ANY OPTIONAL }
 unfoldable pub algorithm_body : Whole Algorithm

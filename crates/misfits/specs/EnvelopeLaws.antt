@@ -3,8 +3,6 @@
 -- Assumes nothing.
 use Rattle.std.specs.Prelude.{ℕ, ◌≡◌, true, false, List}
 use Rattle.layout.specs.Names.{Envelope, failure, success}
-use Rattle.layout.proofs.ElementKinds as kinds
-use Rattle.layout.proofs.Format as format
 use Rattle.misfits.specs.Tests.{is_zero}
 use Rattle.misfits.specs.Misfits.{status_content, type_content, string_content}
 

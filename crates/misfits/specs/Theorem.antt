@@ -4,7 +4,6 @@
 -- Assumes nothing.
 use Rattle.codec.specs.declared.Fit.{Fit}
 use Rattle.codec.specs.declared.Fit.TheVariants.{Fits, Breaks}
-use Rattle.layout.proofs.Format as format
 use Rattle.layout.specs.Read.{Outcome, reads, other_type, unfit}
 
 -- the place that an outcome carries

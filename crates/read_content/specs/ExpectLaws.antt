@@ -16,7 +16,6 @@ use Rattle.element.specs.declared.Header.TheVariants.{Found, Refused}
 use Rattle.codec.specs.Codec.{Read, bad}
 use Rattle.codec.specs.Outcome.{attach}
 use Rattle.codec.specs.Tagged.{tagged_of, tagged_dec}
-use Rattle.codec.specs.declared.Fit.TheVariants as fit
 use Rattle.read_content.specs.Spots.{expected}
 use Rattle.read_content.specs.declared.Spot.{Spot}
 use Rattle.read_content.specs.declared.Spot.TheVariants as spot

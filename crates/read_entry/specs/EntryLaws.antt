@@ -1,27 +1,23 @@
 -- Laws of an entry at the head of a list: its header, and where the form of its CertID is.
 -- entry_header, entry_cert.
 -- The definition is in Ids. Assumes nothing.
-use Rattle.std.specs.Prelude.{ℕ, ◌+◌, ◌-◌, ◌≤◌, ◌≡◌, refl, List, [], ◌++◌, drop}
+use Rattle.std.specs.Prelude.{ℕ, ◌+◌, ◌-◌, ◌≤◌, ◌≡◌, refl, List, drop}
 use native.Mathlib.Omega.{arith}
 use Rattle.std.proofs.Math.Path.{sym}
-use Rattle.std.proofs.Common.{ap, ◌∙◌, append_assoc, append-nil, length-append, take_at, drop_at, eq-eqb}
+use Rattle.std.proofs.Common.{ap, ◌∙◌, eq-eqb}
 use Rattle.std.proofs.Math.ListN.{length, take, length-drop}
 use Rattle.std.proofs.Math.Seq.{length-take-le}
 use Rattle.octets.specs.Octets.{Octets}
 use Rattle.octets.specs.OctetsLaws.{octets_take, octets_drop}
-use Rattle.element.specs.Form.{head_form, form_of}
 use Rattle.element.specs.Header.{header_of}
 use Rattle.element.specs.HeaderLaws.{header_inside}
 use Rattle.element.specs.declared.Header.TheVariants.{Found}
 use Rattle.codec.specs.Codec.{read, got}
-use Rattle.codec.proofs.CodecLaws.{got_size}
 use Rattle.codec.proofs.Outcome.{renamed_read}
 use Rattle.codec.specs.Tagged.{inner}
 use Rattle.codec.specs.Mapped.{mapped_dec}
-use Rattle.codec.specs.Option.{option_enc}
 use Rattle.layout.specs.Reading.{Entry}
-use Rattle.layout.proofs.ElementKinds.{time}
-use Rattle.layout.proofs.Format.{cert_body, cert_id, cert_status, extensions, next_update, single_body, single_response}
+use Rattle.layout.proofs.Format.{cert_body, cert_id, single_body, single_response}
 use Rattle.read_content.specs.Spots.{expected}
 use Rattle.read_content.specs.declared.Spot.TheVariants.{At}
 use Rattle.read_ending.specs.PartLaws.{cut_in, tagged_read, field_read}

@@ -8,7 +8,6 @@ use Rattle.std.proofs.Math.Option.{none, some}
 use Rattle.codec.specs.Tree.{prim}
 use Rattle.layout.specs.Reading.{Algorithm}
 use Rattle.layout.specs.Limits.{AlgorithmOk}
-use Rattle.layout.proofs.ElementKinds as kinds
 use Rattle.layout.proofs.EntryFormat.{algorithm_identifier}
 
 -- an algorithm is one of a list

@@ -11,7 +11,7 @@ use Rattle.answer.specs.declared.Verdict.TheVariants.{Good}
 use Rattle.answer.specs.declared.Place.TheVariants as place
 use Rattle.rules.specs.Ruling.{answer_of}
 use Rattle.rules.proofs.RefusalLaws.{out_of_range}
-use Rattle.rules.specs.Examples.{answered, card, checked, failure, question_at, response, unfit_status, {}
+use Rattle.rules.specs.Examples.{answered, card, checked, failure, question_at, response, unfit_status}
 
 pub failure_read : reading failure ≡ reads (failed 6)
 unfolding opened

@@ -14,6 +14,7 @@ pub fn start<'a>(response: &'a [u8]) -> Walk<'a>
 
 // A step of a lent walk: what it says, the octets that it hands out, and the walk moves. The response is
 // judged once.
+#[tactic(auto, unfolding(walk_rules::specs::Step::walk_step, walk_rules::specs::Step::part_of))]
 pub fn next<'s, 'a>(w: &'s mut Walk<'a>) -> Handed<'a>
     ensures { (result.says ≡ say_of w.old) × (result.part.now ≡ hand_of w.old) × (w.new ≡ moved_of w.old) }
 {
@@ -27,6 +28,7 @@ pub fn next<'s, 'a>(w: &'s mut Walk<'a>) -> Handed<'a>
 }
 
 // A walk made, put at a place, and stepped, as numbers: for a caller that holds no walk.
+#[tactic(auto, unfolding(walk_rules::specs::Step::stepped_of))]
 pub fn step_from(response: &[u8], place: usize) -> Stepped
     ensures { result ≡ stepped_of response.now place }
 {

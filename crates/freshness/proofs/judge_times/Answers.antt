@@ -1,5 +1,4 @@
 -- `freshness::judge_times` meets its contract. Assumes nothing.
-use borrow.Author.Rules.{rules}
 use Rattle.freshness.proofs.Cases.{judge_endless, judge_reversed, judge_early, judge_before, judge_late, judge_tolerated}
 use Rattle.freshness.proofs.judge_times.Goals as goal
 

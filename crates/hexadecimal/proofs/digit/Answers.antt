@@ -1,5 +1,4 @@
 -- `hexadecimal::digit` meets its contract. Assumes nothing.
-use borrow.Author.Rules.{rules}
 use mathlib.Core.Path.{sym}
 use native.Mathlib.Omega.{arith}
 use Rattle.hexadecimal.specs.HexLaws.{digit_low, digit_high}

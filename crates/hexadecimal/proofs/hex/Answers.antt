@@ -1,9 +1,9 @@
 -- What is left to show of the loop.
-use mathlib.Core.Path.{◌≡◌, refl}
-use Prim.Native.Nat.{◌-◌, ◌≤◌}
+use mathlib.Core.Path.{refl}
+use Prim.Native.Nat.{◌-◌}
 use native.Mathlib.Omega.{arith}
-use lib.ListN.{length, length-set}
-use Rattle.hexadecimal.proofs.Turns.{hexed, hexed_none, hexed_next, hexed_end, hex_none, hex_kept, hex_size}
+use lib.ListN.{length-set}
+use Rattle.hexadecimal.proofs.Turns.{hexed_none, hexed_next, hexed_end, hex_none, hex_kept, hex_size}
 use Rattle.hexadecimal.proofs.hex.Goals as goal
 
 pub returns-then-out-size : goal.returns-then-out-size

@@ -1,10 +1,9 @@
 -- `hexadecimal::hex` meets its contract. The loop's invariant: the digits of the first i octets are in place.
 -- Assumes nothing.
-use mathlib.Core.Path.{◌≡◌, refl}
+use mathlib.Core.Path.{◌≡◌}
 use Prim.Native.Nat.{◌-◌, ◌≤◌}
-use native.Mathlib.Omega.{arith}
-use lib.ListN.{length, length-set}
-use Rattle.hexadecimal.proofs.Turns.{hexed, hexed_none, hexed_next, hexed_end, hex_none, hex_kept, hex_size}
+use lib.ListN.{length}
+use Rattle.hexadecimal.proofs.Turns.{hexed}
 use Rattle.hexadecimal.proofs.hex.Given as goal
 
 abbrev pub invariant-loop-i : goal.invariant-loop-i

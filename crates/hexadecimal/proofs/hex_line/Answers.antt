@@ -1,6 +1,5 @@
 -- `hexadecimal::hex_line` meets its contract. Assumes nothing.
 use native.Mathlib.Omega.{arith}
-use borrow.Author.Rules.{rules}
 use Rattle.hexadecimal.proofs.Turns.{line_none, line_kept, line_size, line_end}
 use Rattle.hexadecimal.proofs.hex_line.Goals as goal
 

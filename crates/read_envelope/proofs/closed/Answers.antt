@@ -1,6 +1,5 @@
 -- `read_envelope::closed` meets its contract, by what the content was found to be.
 -- Assumes nothing.
-use borrow.Author.Rules.{rules}
 use Rattle.read_envelope.proofs.CoverCases.{place_sum, closed_broken, closed_failed, closed_failed_left, closed_holds, closed_holds_left}
 use Rattle.read_envelope.proofs.closed.Goals as goal
 

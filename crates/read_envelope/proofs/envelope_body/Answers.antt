@@ -1,6 +1,5 @@
 -- `read_envelope::envelope_body` meets its contract, by the status and what follows it.
 -- Assumes nothing.
-use borrow.Author.Rules.{rules}
 use Rattle.read_envelope.proofs.CoverCases.{status_wrong, status_inside, bytes_place, bytes_closed, error_alone, error_left}
 use Rattle.read_envelope.proofs.envelope_body.Goals as goal
 

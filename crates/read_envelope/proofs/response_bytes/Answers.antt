@@ -1,6 +1,5 @@
 -- `read_envelope::response_bytes` meets its contract, by the header and the content.
 -- Assumes nothing.
-use borrow.Author.Rules.{rules}
 use Rattle.layout.proofs.Format.{response_bytes}
 use Rattle.read_envelope.specs.Cover.{type_sequence, type_string}
 use Rattle.read_envelope.proofs.CoverCases.{held_sum, held_end, held_place, held_wrong, held_closed}

@@ -1,6 +1,5 @@
 -- `read_envelope::type_and_string` meets its contract, by the type and the string.
 -- Assumes nothing.
-use borrow.Author.Rules.{rules}
 use Rattle.read_envelope.proofs.StringCases.{type_wrong, type_sum, type_end, string_place, string_from, string_to, string_wrong, string_fills, string_left}
 use Rattle.read_envelope.proofs.type_and_string.Goals as goal
 

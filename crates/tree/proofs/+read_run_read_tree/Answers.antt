@@ -1,13 +1,12 @@
 -- `tree::read_tree` and `tree::read_run` meet their contracts, each by the other.
 -- Assumes nothing.
 use native.Mathlib.Omega.{arith}
-use borrow.Author.Rules.{rules}
 use mathlib.Core.Option.{none}
 use Rattle.codec.specs.Tree.{Tree}
 use Rattle.codec.proofs.TurnLaws.{fits, turn_start, turn_end, turn_bad}
 use Rattle.tree.specs.TreeViewLaws.{turn_place, turn_inside, turn_sum, turn_less, turn_next}
-use Rattle.tree.proofs.LightCases.{over_sum, over_inside, over_less, over_next}
-use Rattle.tree.proofs.TreeCases.{too_deep, run_falls, tree_falls, found_end, found_sum, refused, primitive, run_fits, run_breaks, run_place}
+use Rattle.tree.proofs.LightCases.{over_sum, over_inside, over_next}
+use Rattle.tree.proofs.TreeCases.{too_deep, run_falls, found_end, found_sum, refused, primitive, run_fits, run_breaks, run_place}
 use Rattle.tree.proofs.+read_run_read_tree.Goals as goal
 
 pub read_run-loop-at-init : goal.read_run-loop-at-init

@@ -1,6 +1,5 @@
 -- `tree::read_tree_tagged` meets its contract, by the depth and the first octet.
 -- Assumes nothing.
-use borrow.Author.Rules.{rules}
 use Rattle.tree.proofs.TreeCases.{wanted_shallow, wanted_none, wanted_other, wanted_found}
 use Rattle.tree.proofs.read_tree_tagged.Goals as goal
 

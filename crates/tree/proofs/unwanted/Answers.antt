@@ -1,6 +1,5 @@
 -- `tree::unwanted` meets its contract, by the header.
 -- Assumes nothing.
-use borrow.Author.Rules.{rules}
 use Rattle.tree.proofs.TreeCases.{unwanted_refused, unwanted_found}
 use Rattle.tree.proofs.unwanted.Goals as goal
 

@@ -1,11 +1,6 @@
 -- What is left to show of the loop.
-use Prim.Native.Nat.{◌-◌, ◌≤◌}
+use Prim.Native.Nat.{◌-◌}
 use native.Mathlib.Omega.{arith}
-use mathlib.Core.Path.{◌≡◌}
-use mathlib.Core.Bool.{true}
-use borrow.Author.Rules.{rules}
-use lib.ListN.{length, take}
-use Rattle.answer.specs.Card.{all_zero}
 use Rattle.answer.proofs.ZeroCases.{zero_start, zero_grow, zero_broken, zero_last}
 use Rattle.answer.proofs.cards.all_zero.Goals as goal
 

@@ -1,13 +1,10 @@
 -- `answer::cards::all_zero` meets its contract. The loop's invariant: the octets before the place are zeros.
 -- Assumes nothing.
 use Prim.Native.Nat.{◌-◌, ◌≤◌}
-use native.Mathlib.Omega.{arith}
 use mathlib.Core.Path.{◌≡◌}
 use mathlib.Core.Bool.{true}
-use borrow.Author.Rules.{rules}
 use lib.ListN.{length, take}
 use Rattle.answer.specs.Card.{all_zero}
-use Rattle.answer.proofs.ZeroCases.{zero_start, zero_grow, zero_broken, zero_last}
 use Rattle.answer.proofs.cards.all_zero.Given as goal
 
 abbrev pub invariant-loop-i : goal.invariant-loop-i

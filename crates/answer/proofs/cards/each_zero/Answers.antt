@@ -1,11 +1,7 @@
 -- What is left to show of the loop.
-use Prim.Native.Nat.{◌-◌, ◌≤◌}
+use Prim.Native.Nat.{◌-◌}
 use native.Mathlib.Omega.{arith}
-use mathlib.Core.Path.{◌≡◌, refl}
-use mathlib.Core.Bool.{false, cond}
-use borrow.Author.Rules.{rules}
-use lib.ListN.{length, drop}
-use Rattle.answer.specs.Card.{all_zero}
+use mathlib.Core.Path.{refl}
 use Rattle.answer.proofs.Cases.{zero_next, zero_end}
 use Rattle.answer.proofs.cards.each_zero.Goals as goal
 

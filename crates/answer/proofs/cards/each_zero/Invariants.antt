@@ -1,13 +1,10 @@
 -- `answer::cards::each_zero` meets its contract. The loop's invariant: the answer is that of the octets before and of what is left.
 -- Assumes nothing.
 use Prim.Native.Nat.{◌-◌, ◌≤◌}
-use native.Mathlib.Omega.{arith}
-use mathlib.Core.Path.{◌≡◌, refl}
+use mathlib.Core.Path.{◌≡◌}
 use mathlib.Core.Bool.{false, cond}
-use borrow.Author.Rules.{rules}
 use lib.ListN.{length, drop}
 use Rattle.answer.specs.Card.{all_zero}
-use Rattle.answer.proofs.Cases.{zero_next, zero_end}
 use Rattle.answer.proofs.cards.each_zero.Given as goal
 
 abbrev pub invariant-loop-i : goal.invariant-loop-i

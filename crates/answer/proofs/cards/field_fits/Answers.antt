@@ -1,5 +1,4 @@
 -- `answer::cards::field_fits` meets its contract. Assumes nothing.
-use borrow.Author.Rules.{rules}
 use Rattle.answer.proofs.Cases.{field_long, field_short, counted, field_serial, field_fill}
 use Rattle.answer.proofs.cards.field_fits.Goals as goal
 

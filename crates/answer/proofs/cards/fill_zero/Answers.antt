@@ -1,9 +1,7 @@
 -- What is left to show of the loop.
-use Prim.Native.Nat.{◌-◌, ◌≤◌}
+use Prim.Native.Nat.{◌-◌}
 use native.Mathlib.Omega.{arith}
-use mathlib.Core.Path.{◌≡◌, refl}
-use lib.ListN.{length, drop}
-use Rattle.answer.specs.Card.{all_zero}
+use mathlib.Core.Path.{refl}
 use Rattle.answer.proofs.Cases.{fill_next, fill_other, fill_end}
 use Rattle.answer.proofs.cards.fill_zero.Goals as goal
 

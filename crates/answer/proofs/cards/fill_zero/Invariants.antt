@@ -1,11 +1,9 @@
 -- `answer::cards::fill_zero` meets its contract. The loop's invariant: the octets before are zeros, so the answer is that of
 -- what is left. Assumes nothing.
 use Prim.Native.Nat.{◌-◌, ◌≤◌}
-use native.Mathlib.Omega.{arith}
-use mathlib.Core.Path.{◌≡◌, refl}
+use mathlib.Core.Path.{◌≡◌}
 use lib.ListN.{length, drop}
 use Rattle.answer.specs.Card.{all_zero}
-use Rattle.answer.proofs.Cases.{fill_next, fill_other, fill_end}
 use Rattle.answer.proofs.cards.fill_zero.Given as goal
 
 abbrev pub invariant-loop-at : goal.invariant-loop-at

@@ -1,5 +1,4 @@
 -- `answer::cards::same_card` meets its contract. Assumes nothing.
-use borrow.Author.Rules.{rules}
 use Rattle.answer.proofs.Cases.{card_name, card_key, card_serial, card_size_lem}
 use Rattle.answer.proofs.cards.same_card.Goals as goal
 

@@ -4,7 +4,6 @@ use native.Mathlib.Omega.{arith}
 use mathlib.Core.Path.{sym, ◌∙◌}
 use mathlib.Core.Bool.{true, false}
 use Rattle.calendar.proofs.MonthLaws.{days_by, months_first, months_later}
-use borrow.Author.Rules.{rules}
 use Rattle.calendar.proofs.date.before_month.Goals as goal
 
 pub returns-then-m-lt3 : goal.returns-then-m-lt3

@@ -3,7 +3,6 @@
 use mathlib.Core.Path.{ap}
 use lib.Dec.{leb}
 use Rattle.calendar.proofs.MonthLaws.{day_early}
-use borrow.Author.Rules.{rules}
 use Rattle.calendar.proofs.date.day_fits.Goals as goal
 
 pub returns-then-d-le28 : goal.returns-then-d-le28

@@ -4,7 +4,6 @@ use native.Mathlib.Omega.{arith}
 use mathlib.Core.Path.{sym, ◌∙◌}
 use mathlib.Core.Bool.{true, false}
 use Rattle.calendar.proofs.MonthLaws.{length_by, month_second, month_other}
-use borrow.Author.Rules.{rules}
 use Rattle.calendar.proofs.date.month_len.Goals as goal
 
 pub returns-then-is_leap : goal.returns-then-is_leap

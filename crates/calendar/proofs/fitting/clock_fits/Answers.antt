@@ -2,7 +2,6 @@
 -- Assumes nothing.
 use Rattle.calendar.proofs.FitLaws.{none_fits, clock_fit}
 use native.Mathlib.Omega.{arith}
-use borrow.Author.Rules.{rules}
 use Rattle.calendar.proofs.fitting.clock_fits.Goals as goal
 
 pub returns-then-c-ge100 : goal.returns-then-c-ge100

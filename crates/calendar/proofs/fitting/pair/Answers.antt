@@ -2,7 +2,6 @@
 -- Assumes nothing.
 use native.Mathlib.Omega.{arith}
 use Rattle.calendar.proofs.FitLaws.{pair_number, pair_none}
-use borrow.Author.Rules.{rules}
 use Rattle.calendar.proofs.fitting.pair.Goals as goal
 
 pub returns-then-a-lt48 : goal.returns-then-a-lt48

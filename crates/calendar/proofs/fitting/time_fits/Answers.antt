@@ -2,7 +2,6 @@
 -- Assumes nothing.
 use Rattle.calendar.proofs.FitLaws.{time_long, time_unzoned, octets_fit}
 use native.Mathlib.Omega.{arith}
-use borrow.Author.Rules.{rules}
 use Rattle.calendar.proofs.fitting.time_fits.Goals as goal
 
 pub returns-then-s-ne15 : goal.returns-then-s-ne15

@@ -2,7 +2,6 @@
 -- Assumes nothing.
 use native.Mathlib.Omega.{arith}
 use Rattle.calendar.proofs.PlainCases.{none_is, clock_is}
-use borrow.Author.Rules.{rules}
 use Rattle.calendar.proofs.plain.plain_clock.Goals as goal
 
 pub returns-then-years-lt55298 : goal.returns-then-years-lt55298

@@ -2,7 +2,6 @@
 -- Assumes nothing.
 use native.Mathlib.Omega.{arith}
 use Rattle.calendar.proofs.PlainCases.{plain_long, plain_is}
-use borrow.Author.Rules.{rules}
 use Rattle.calendar.proofs.plain.seconds_of.Goals as goal
 
 pub returns-then-s-ne15 : goal.returns-then-s-ne15

@@ -1,7 +1,6 @@
 -- `calendar::reading::read_time` meets its contract: each return is a case law of FitLaws.
 -- Assumes nothing.
 use Rattle.calendar.proofs.FitLaws.{read_at, read_none}
-use borrow.Author.Rules.{rules}
 use Rattle.calendar.proofs.reading.read_time.Goals as goal
 
 pub returns-then-time_fits : goal.returns-then-time_fits

@@ -1,9 +1,6 @@
 -- What is left to show of the loop.
-use Prim.Native.Nat.{◌-◌, ◌≤◌}
+use Prim.Native.Nat.{◌-◌}
 use native.Mathlib.Omega.{arith}
-use mathlib.Core.Path.{◌≡◌}
-use lib.ListN.{length, drop}
-use Rattle.content.specs.Oid.{oid_from, oid_ok}
 use Rattle.content.proofs.Cases.{oid_empty, oid_start, oid_80, oid_begins, oid_goes, oid_end}
 use Rattle.content.proofs.oid.oid_fits.Goals as goal
 use Rattle.content.proofs.oid.oid_fits.Goals.{then-begins+else-x, else-begins}

@@ -1,11 +1,9 @@
 -- `content::oid::oid_fits` meets its contract. The loop's invariant: the answer is that of the rest, where a part begins or goes on.
 -- Assumes nothing.
 use Prim.Native.Nat.{◌-◌, ◌≤◌}
-use native.Mathlib.Omega.{arith}
 use mathlib.Core.Path.{◌≡◌}
 use lib.ListN.{length, drop}
 use Rattle.content.specs.Oid.{oid_from, oid_ok}
-use Rattle.content.proofs.Cases.{oid_empty, oid_start, oid_80, oid_begins, oid_goes, oid_end}
 use Rattle.content.proofs.oid.oid_fits.Given as goal
 
 abbrev pub invariant-loop-i : goal.invariant-loop-i

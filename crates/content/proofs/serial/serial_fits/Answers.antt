@@ -1,7 +1,6 @@
 -- `content::serial::serial_fits` meets its contract. Assumes nothing.
 use native.Mathlib.Omega.{arith}
 use Rattle.content.proofs.Cases.{serial_empty, serial_long, serial_high, serial_one, serial_plain, serial_zero}
-use borrow.Author.Rules.{rules}
 use Rattle.content.proofs.serial.serial_fits.Goals as goal
 
 pub returns-then-s-eq0 : goal.returns-then-s-eq0

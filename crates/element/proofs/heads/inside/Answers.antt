@@ -1,7 +1,6 @@
 -- `element::heads::inside` meets its contract.
 -- Assumes nothing.
 use borrow.Author.Tests.{le-leb, lt-leb}
-use borrow.Author.Rules.{rules}
 use Rattle.element.specs.Header.{inside_of}
 use Rattle.element.proofs.heads.inside.Goals as goal
 

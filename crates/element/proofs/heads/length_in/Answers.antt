@@ -1,6 +1,5 @@
 -- `element::heads::length_in` meets its contract. Assumes nothing.
 use native.Mathlib.Omega.{arith}
-use borrow.Author.Rules.{rules}
 use Rattle.element.proofs.LengthCases.{length_one, length_two}
 use Rattle.element.proofs.heads.length_in.Goals as goal
 

@@ -1,6 +1,5 @@
 -- `element::heads::read_header` meets its contract, by the tag and the first length octet.
 -- Assumes nothing.
-use borrow.Author.Rules.{rules}
 use Rattle.element.proofs.HeadCases.{wrong_tag, short_length, no_count, large_count, long_length}
 use Rattle.element.proofs.heads.read_header.Goals as goal
 

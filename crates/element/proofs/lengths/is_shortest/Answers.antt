@@ -1,7 +1,6 @@
 -- `element::lengths::is_shortest` meets its contract, by whether one octet would be enough.
 -- Assumes nothing.
 use borrow.Author.Tests.{lt-ltb, le-ltb}
-use borrow.Author.Rules.{rules}
 use Rattle.element.specs.Length.{shortest}
 use Rattle.element.proofs.lengths.is_shortest.Goals as goal
 

@@ -1,6 +1,5 @@
 -- `element::tags::tag_fits` meets its contract, by the cases of the tag's number.
 -- Assumes nothing.
-use borrow.Author.Rules.{rules}
 use Rattle.element.proofs.TagCases.{long_number, some_number, number_zero}
 use Rattle.element.proofs.tags.tag_fits.Goals as goal
 

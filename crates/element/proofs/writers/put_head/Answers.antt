@@ -1,6 +1,5 @@
 -- `element::writers::put_head` meets its contract: two writes in a row are one.
 -- Assumes nothing.
-use borrow.Author.Rules.{rules}
 use Rattle.element.proofs.WriteCases.{no_place, no_place_in, no_room, no_room_in, room, room_in}
 use Rattle.element.proofs.writers.put_head.Goals as goal
 

@@ -1,5 +1,4 @@
 -- `fields::parts::card_in` meets its contract. Assumes nothing.
-use borrow.Author.Rules.{rules}
 use Rattle.fields.proofs.Cases.{card_parts}
 use Rattle.fields.proofs.parts.card_in.Goals as goal
 

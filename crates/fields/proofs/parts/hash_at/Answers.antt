@@ -1,5 +1,4 @@
 -- `fields::parts::hash_at` meets its contract. Assumes nothing.
-use borrow.Author.Rules.{rules}
 use Rattle.fields.proofs.Cases.{fields_none, fields_cut, fields_whole}
 use Rattle.fields.proofs.parts.hash_at.Goals as goal
 

@@ -1,5 +1,4 @@
 -- `fields::parts::value_at` meets its contract. Assumes nothing.
-use borrow.Author.Rules.{rules}
 use Rattle.fields.proofs.Cases.{value_is, value_outside}
 use Rattle.fields.proofs.parts.value_at.Goals as goal
 

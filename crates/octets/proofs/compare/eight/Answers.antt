@@ -1,5 +1,4 @@
 -- `octets::compare::eight` meets its contract. Assumes nothing.
-use borrow.Author.Rules.{rules}
 use Rattle.octets.proofs.Eights.{eight_low}
 use Rattle.octets.proofs.compare.eight.Goals as goal
 

@@ -1,10 +1,7 @@
 -- What is left to show of the loop.
-use mathlib.Core.Path.{◌≡◌, refl, sym}
-use Prim.Native.Nat.{◌-◌, ◌≤◌}
+use mathlib.Core.Path.{refl, sym}
+use Prim.Native.Nat.{◌-◌}
 use native.Mathlib.Omega.{arith}
-use borrow.Author.Rules.{rules}
-use lib.ListN.{length, drop}
-use Rattle.octets.specs.Same.{same_of}
 use Rattle.octets.specs.SameLaws.{same_short}
 use Rattle.octets.proofs.Eights.{eights_next, eights_differ, eights_end}
 use Rattle.octets.proofs.compare.same.Goals as goal
@@ -20,22 +17,22 @@ returns-then-eight c = search eights_differ
 
 pub loop-i-preserved : goal.loop-i-preserved
 loop-i-preserved c = let a = c.args in (
-      omega arith,
-      eights_next
-          a.a.now
-          a.b.now
-          c.loop-i.i
-          _
-          _
-          c.eight.ensures
-          c.eight-in-loop-i.ensures
-          c.type_inv.a
-          c.type_inv.b
-          c.if-a-b.false
-          c.if-eight.false
-          c.loop-i.invariant.1
-          (omega arith),
-    )
+  omega arith,
+  eights_next
+      a.a.now
+      a.b.now
+      c.loop-i.i
+      _
+      _
+      c.eight.ensures
+      c.eight-in-loop-i.ensures
+      c.type_inv.a
+      c.type_inv.b
+      c.if-a-b.false
+      c.if-eight.false
+      c.loop-i.invariant.1
+      (omega arith),
+)
 
 pub returns-then-eight-2 : goal.returns-then-eight-2
 returns-then-eight-2 c = search eights_differ

@@ -1,13 +1,9 @@
 -- `octets::compare::same` meets its contract. The loop's invariant: the answer is that of what is left of both lists.
 -- Assumes nothing.
-use mathlib.Core.Path.{◌≡◌, refl, sym}
+use mathlib.Core.Path.{◌≡◌}
 use Prim.Native.Nat.{◌-◌, ◌≤◌}
-use native.Mathlib.Omega.{arith}
-use borrow.Author.Rules.{rules}
 use lib.ListN.{length, drop}
 use Rattle.octets.specs.Same.{same_of}
-use Rattle.octets.specs.SameLaws.{same_short}
-use Rattle.octets.proofs.Eights.{eights_next, eights_differ, eights_end}
 use Rattle.octets.proofs.compare.same.Given as goal
 
 abbrev pub invariant-loop-i : goal.invariant-loop-i

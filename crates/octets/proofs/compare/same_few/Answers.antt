@@ -1,9 +1,7 @@
 -- What is left to show of the loop.
-use mathlib.Core.Path.{◌≡◌, refl}
-use Prim.Native.Nat.{◌-◌, ◌≤◌}
+use mathlib.Core.Path.{refl}
+use Prim.Native.Nat.{◌-◌}
 use native.Mathlib.Omega.{arith}
-use lib.ListN.{length, drop}
-use Rattle.octets.specs.Same.{same_of}
 use Rattle.octets.proofs.Turns.{same_next, same_stop, same_end}
 use Rattle.octets.proofs.compare.same_few.Goals as goal
 

@@ -1,11 +1,9 @@
 -- `octets::compare::same_few` meets its contract. The loop's invariant: the answer is that of what is left of both lists.
 -- Assumes nothing.
-use mathlib.Core.Path.{◌≡◌, refl}
+use mathlib.Core.Path.{◌≡◌}
 use Prim.Native.Nat.{◌-◌, ◌≤◌}
-use native.Mathlib.Omega.{arith}
 use lib.ListN.{length, drop}
 use Rattle.octets.specs.Same.{same_of}
-use Rattle.octets.proofs.Turns.{same_next, same_stop, same_end}
 use Rattle.octets.proofs.compare.same_few.Given as goal
 
 abbrev pub invariant-loop-i : goal.invariant-loop-i

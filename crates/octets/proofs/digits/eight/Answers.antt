@@ -1,5 +1,4 @@
 -- `octets::digits::eight` meets its contract. Assumes nothing.
-use borrow.Author.Rules.{rules}
 use Rattle.octets.proofs.Eights.{eight_high}
 use Rattle.octets.proofs.digits.eight.Goals as goal
 

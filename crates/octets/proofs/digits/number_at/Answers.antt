@@ -1,5 +1,4 @@
 -- `octets::digits::number_at` meets its contract. Assumes nothing.
-use borrow.Author.Rules.{rules}
 use Rattle.octets.proofs.Eights.{eight_past, eight_short, eight_is}
 use Rattle.octets.proofs.digits.number_at.Goals as goal
 

@@ -1,9 +1,9 @@
 -- What is left to show of the loop.
-use mathlib.Core.Path.{◌≡◌, refl, sym}
-use Prim.Native.Nat.{◌+◌, ◌-◌, ◌^◌, ◌≤◌, ◌<◌}
+use mathlib.Core.Path.{refl, sym}
+use Prim.Native.Nat.{◌+◌, ◌-◌, ◌<◌}
 use native.Mathlib.Omega.{arith}
 use lib.Dec.{lit<}
-use lib.ListN.{get_or, take, drop}
+use lib.ListN.{get_or}
 use Rattle.octets.specs.Number.{value_of}
 use Rattle.octets.specs.NumberLaws.{number_wide, number_outside}
 use Rattle.octets.proofs.Turns.{number_room, number_less, number_next, number_end}

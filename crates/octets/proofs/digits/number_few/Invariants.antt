@@ -1,13 +1,9 @@
 -- `octets::digits::number_few` meets its contract. The loop's invariant: n is the number of the first i octets at the place.
 -- Assumes nothing.
-use mathlib.Core.Path.{◌≡◌, refl, sym}
-use Prim.Native.Nat.{◌+◌, ◌-◌, ◌^◌, ◌≤◌, ◌<◌}
-use native.Mathlib.Omega.{arith}
-use lib.Dec.{lit<}
-use lib.ListN.{get_or, take, drop}
+use mathlib.Core.Path.{◌≡◌}
+use Prim.Native.Nat.{◌-◌, ◌^◌, ◌≤◌, ◌<◌}
+use lib.ListN.{take, drop}
 use Rattle.octets.specs.Number.{value_of}
-use Rattle.octets.specs.NumberLaws.{number_wide, number_outside}
-use Rattle.octets.proofs.Turns.{number_room, number_less, number_next, number_end}
 use Rattle.octets.proofs.digits.number_few.Given as goal
 
 abbrev pub invariant-loop-i : goal.invariant-loop-i

@@ -1,9 +1,9 @@
 -- What is left to show of the loop.
-use mathlib.Core.Path.{◌≡◌, sym}
-use Prim.Native.Nat.{◌-◌, ◌≤◌}
+use mathlib.Core.Path.{sym}
+use Prim.Native.Nat.{◌-◌}
 use native.Mathlib.Omega.{arith}
-use lib.ListN.{length, length-set}
-use lib.Seq.{paste, paste-zero}
+use lib.ListN.{length-set}
+use lib.Seq.{paste-zero}
 use Rattle.octets.specs.BufferLaws.{put_in_short, put_answer_short, put_answer_room}
 use Rattle.octets.proofs.Turns.{put_next, put_end}
 use Rattle.octets.proofs.place.put.Goals as goal

@@ -1,12 +1,9 @@
 -- `octets::place::put` meets its contract. The loop's invariant: the first i octets are copied.
 -- Assumes nothing.
-use mathlib.Core.Path.{◌≡◌, sym}
+use mathlib.Core.Path.{◌≡◌}
 use Prim.Native.Nat.{◌-◌, ◌≤◌}
-use native.Mathlib.Omega.{arith}
-use lib.ListN.{length, length-set}
-use lib.Seq.{paste, paste-zero}
-use Rattle.octets.specs.BufferLaws.{put_in_short, put_answer_short, put_answer_room}
-use Rattle.octets.proofs.Turns.{put_next, put_end}
+use lib.ListN.{length}
+use lib.Seq.{paste}
 use Rattle.octets.proofs.place.put.Given as goal
 
 abbrev pub invariant-loop-i : goal.invariant-loop-i

@@ -1,5 +1,4 @@
 -- `octets::weights::weigh` meets its contract. Assumes nothing.
-use borrow.Author.Rules.{rules}
 use Rattle.octets.proofs.Eights.{weights}
 use Rattle.octets.proofs.weights.weigh.Goals as goal
 

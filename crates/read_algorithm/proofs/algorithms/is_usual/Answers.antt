@@ -1,6 +1,5 @@
 -- `read_algorithm::algorithms::is_usual` meets its contract, by the length, the second octet and all eleven.
 -- Assumes nothing.
-use borrow.Author.Rules.{rules}
 use Rattle.read_algorithm.specs.Usual.{usual_cut, usual_other, usual_same}
 use Rattle.read_algorithm.proofs.algorithms.is_usual.Goals as goal
 

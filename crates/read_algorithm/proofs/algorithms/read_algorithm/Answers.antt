@@ -1,6 +1,5 @@
 -- `read_algorithm::algorithm::read_algorithm` meets its contract: by the octets where they are the usual ones, else by any identifier.
 -- Assumes nothing.
-use borrow.Author.Rules.{rules}
 use Rattle.read_algorithm.specs.Usual.{usual_read}
 use Rattle.read_algorithm.proofs.algorithms.read_algorithm.Goals as goal
 

@@ -1,6 +1,5 @@
 -- `read_basic::signed::entries_and_more` meets its contract, by the entries and what follows them.
 -- Assumes nothing.
-use borrow.Author.Rules.{rules}
 use Rattle.read_content.specs.ExpectLaws.{content_end, content_sum}
 use Rattle.read_basic.proofs.ListCases.{entries_wrong, entries_place_lem, entries_broken, more_place, more_broken, entries_found}
 use Rattle.read_basic.proofs.signed.entries_and_more.Goals as goal

@@ -1,6 +1,5 @@
 -- `read_basic::signed::signed_body` meets its contract, by the version and the fields after it.
 -- Assumes nothing.
-use borrow.Author.Rules.{rules}
 use Rattle.read_basic.proofs.VersionCases.{version_wrong, version_end, version_place, version_moved}
 use Rattle.read_basic.proofs.signed.signed_body.Goals as goal
 

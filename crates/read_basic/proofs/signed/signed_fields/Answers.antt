@@ -1,6 +1,5 @@
 -- `read_basic::signed::signed_fields` meets its contract, by the responder id and what follows it.
 -- Assumes nothing.
-use borrow.Author.Rules.{rules}
 use Rattle.read_sequence.specs.CaseLaws.{field_end}
 use Rattle.read_basic.specs.MoreLaws.{more_wrong, more_place, more_moved}
 use Rattle.read_basic.proofs.SignedCases.{fields_more}

@@ -1,6 +1,5 @@
 -- `read_basic::signed::version_maybe` meets its contract, by the first octet.
 -- Assumes nothing.
-use borrow.Author.Rules.{rules}
 use Rattle.read_basic.proofs.VersionCases.{version_there, version_missing}
 use Rattle.read_basic.proofs.signed.version_maybe.Goals as goal
 

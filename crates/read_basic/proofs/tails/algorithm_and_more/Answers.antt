@@ -1,6 +1,5 @@
 -- `read_basic::tails::algorithm_and_more` meets its contract, by the algorithm and what follows it.
 -- Assumes nothing.
-use borrow.Author.Rules.{rules}
 use Rattle.read_sequence.specs.CaseLaws.{field_end}
 use Rattle.read_basic.specs.MoreLaws.{more_wrong, more_place, more_moved}
 use Rattle.read_basic.proofs.TailCases.{algorithm_more}

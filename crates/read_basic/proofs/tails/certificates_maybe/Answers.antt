@@ -1,6 +1,5 @@
 -- `read_basic::tails::certificates_maybe` meets its contract, by the first octet.
 -- Assumes nothing.
-use borrow.Author.Rules.{rules}
 use Rattle.read_basic.specs.Views.{certificates_on}
 use Rattle.read_sequence.specs.CaseLaws.{filled_optional, optional_none}
 use Rattle.layout.proofs.Format.{certificates}

@@ -1,6 +1,5 @@
 -- `read_basic::tails::signature_and_more` meets its contract, by the signature and what follows it.
 -- Assumes nothing.
-use borrow.Author.Rules.{rules}
 use Rattle.layout.proofs.Format.{signature_bits}
 use Rattle.read_content.specs.LastLaws.{last_bits}
 use Rattle.read_sequence.specs.CaseLaws.{spot_end, spot_sum}

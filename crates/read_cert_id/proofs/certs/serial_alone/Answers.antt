@@ -1,6 +1,5 @@
 -- `read_cert_id::certs::serial_alone` meets its contract, by the serial.
 -- Assumes nothing.
-use borrow.Author.Rules.{rules}
 use Rattle.read_sequence.specs.CaseLaws.{filled_only}
 use Rattle.read_cert_id.proofs.certs.serial_alone.Goals as goal
 

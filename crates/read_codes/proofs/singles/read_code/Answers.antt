@@ -1,6 +1,5 @@
 -- `read_codes::singles::read_code` meets its contract, by the octet.
 -- Assumes nothing.
-use borrow.Author.Rules.{rules}
 use Rattle.read_codes.proofs.OctetCases.{value_wrong, value_pass, value_fail}
 use Rattle.read_codes.proofs.singles.read_code.Goals as goal
 

@@ -1,6 +1,5 @@
 -- `read_codes::singles::read_reason_code` meets its contract, by the octet.
 -- Assumes nothing.
-use borrow.Author.Rules.{rules}
 use Rattle.read_codes.proofs.OctetCases.{taken_wrong, taken_pass, taken_fail}
 use Rattle.read_codes.proofs.singles.read_reason_code.Goals as goal
 

@@ -1,7 +1,6 @@
 -- `read_content::spots::expect` meets its contract: by two octets where the header is short, else by the whole header.
 -- Assumes nothing.
 use native.Mathlib.Omega.{arith}
-use borrow.Author.Rules.{rules}
 use Rattle.read_content.proofs.HeaderCases.{short_same}
 use Rattle.read_content.proofs.spots.expect.Goals as goal
 

@@ -1,6 +1,5 @@
 -- `read_content::spots::expect_any` meets its contract, by the header and its tag.
 -- Assumes nothing.
-use borrow.Author.Rules.{rules}
 use Rattle.read_content.proofs.HeaderCases.{header_refused, header_same, header_other}
 use Rattle.read_content.proofs.spots.expect_any.Goals as goal
 

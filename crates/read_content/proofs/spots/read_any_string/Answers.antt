@@ -1,6 +1,5 @@
 -- `read_content::spots::read_any_string` meets its contract, by the header alone.
 -- Assumes nothing.
-use borrow.Author.Rules.{rules}
 use Rattle.read_content.proofs.ContentCases.{any_octets}
 use Rattle.read_content.proofs.spots.read_any_string.Goals as goal
 

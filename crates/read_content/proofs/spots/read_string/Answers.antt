@@ -1,6 +1,5 @@
 -- `read_content::spots::read_string` meets its contract, by the header and the length of the content.
 -- Assumes nothing.
-use borrow.Author.Rules.{rules}
 use Rattle.read_content.specs.PrimitiveCaseLaws.{wrong_spot}
 use Rattle.read_content.proofs.ContentCases.{string_short, string_long, string_fits}
 use Rattle.read_content.proofs.spots.read_string.Goals as goal

@@ -1,6 +1,5 @@
 -- `read_critical::around::content_at` meets its contract, by the header.
 -- Assumes nothing.
-use borrow.Author.Rules.{rules}
 use Rattle.read_critical.proofs.StrangeAround.{inside_wrong, inside_first, inside_last, inside_more, inside_there}
 use Rattle.read_critical.proofs.around.content_at.Goals as goal
 

@@ -1,7 +1,6 @@
 -- `read_critical::around::strange_place` meets its contract: into one element, into the other, and
 -- through the list.
 -- Assumes nothing.
-use borrow.Author.Rules.{rules}
 use Rattle.read_critical.proofs.StrangeAround.{around_list}
 use Rattle.read_critical.proofs.around.strange_place.Goals as goal
 

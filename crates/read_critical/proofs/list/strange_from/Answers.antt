@@ -1,11 +1,7 @@
 -- What is left to show of the loop.
-use borrow.Author.Rules.{rules}
 use Prim.Native.Nat.{◌-◌}
-use mathlib.Core.List.{[], ◌∷◌}
-use lib.ListN.{length, drop}
-use Rattle.layout.proofs.Format.{extension_list}
 use Rattle.read_oids.specs.NameLaws.{place_first, place_last, place_end, place_next_lem}
-use Rattle.read_critical.proofs.StrangeCases.{Searching, list_broke, search_start, search_end, search_none, search_hit, search_next, search_less}
+use Rattle.read_critical.proofs.StrangeCases.{list_broke, search_start, search_end, search_none, search_hit, search_next, search_less}
 use Rattle.read_critical.proofs.list.strange_from.Goals as goal
 
 pub returns-in_default : goal.returns-in_default

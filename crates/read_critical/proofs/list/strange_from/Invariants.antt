@@ -1,13 +1,11 @@
 -- `read_critical::list::strange_from` meets its contract. The loop is at a place up to which no extension
 -- is critical and not understood.
 -- Assumes nothing.
-use borrow.Author.Rules.{rules}
 use Prim.Native.Nat.{◌-◌}
 use mathlib.Core.List.{[], ◌∷◌}
 use lib.ListN.{length, drop}
 use Rattle.layout.proofs.Format.{extension_list}
-use Rattle.read_oids.specs.NameLaws.{place_first, place_last, place_end, place_next_lem}
-use Rattle.read_critical.proofs.StrangeCases.{Searching, list_broke, search_start, search_end, search_none, search_hit, search_next, search_less}
+use Rattle.read_critical.proofs.StrangeCases.{Searching}
 use Rattle.read_critical.proofs.list.strange_from.Given as goal
 
 abbrev pub invariant-loop-at : goal.invariant-loop-at

@@ -1,6 +1,5 @@
 -- `read_critical::one::is_strange` meets its contract, by the octet after the OID and by the two OIDs.
 -- Assumes nothing.
-use borrow.Author.Rules.{rules}
 use Rattle.read_critical.proofs.StrangeCases.{here_plain, here_first, here_second, here_neither}
 use Rattle.read_critical.proofs.one.is_strange.Goals as goal
 

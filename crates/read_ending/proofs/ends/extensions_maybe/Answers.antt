@@ -1,6 +1,5 @@
 -- `read_ending::ends::extensions_maybe` meets its contract, by the first octet.
 -- Assumes nothing.
-use borrow.Author.Rules.{rules}
 use Rattle.read_ending.proofs.EndCases.{ends_empty, ends_other, ends_there}
 use Rattle.read_ending.proofs.ends.extensions_maybe.Goals as goal
 

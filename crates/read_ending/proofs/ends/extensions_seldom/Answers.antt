@@ -1,6 +1,5 @@
 -- `read_ending::ends::extensions_seldom` meets its contract.
 -- Assumes nothing.
-use borrow.Author.Rules.{rules}
 use Rattle.read_ending.proofs.EndCases.{ends_empty}
 use Rattle.read_ending.proofs.ends.extensions_seldom.Goals as goal
 

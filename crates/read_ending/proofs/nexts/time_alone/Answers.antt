@@ -1,6 +1,5 @@
 -- `read_ending::nexts::time_alone` meets its contract, by the time.
 -- Assumes nothing.
-use borrow.Author.Rules.{rules}
 use Rattle.read_sequence.specs.CaseLaws.{filled_only}
 use Rattle.layout.proofs.ElementKinds.{time}
 use Rattle.read_ending.proofs.nexts.time_alone.Goals as goal

@@ -1,12 +1,9 @@
 -- What is left to show of the loop.
-use Prim.Native.Nat.{◌≤◌, ◌-◌}
+use Prim.Native.Nat.{◌-◌}
 use native.Mathlib.Omega.{arith}
-use borrow.Author.Rules.{rules}
 use mathlib.Core.Option.{some}
-use lib.ListN.{length}
-use Rattle.codec.proofs.TurnLaws.{Turns, turn_start, turn_end, turn_over, turn_bad, turn_next, turn_place, turn_inside, turn_sum, turn_less}
+use Rattle.codec.proofs.TurnLaws.{turn_start, turn_end, turn_over, turn_bad, turn_next, turn_place, turn_inside, turn_sum, turn_less}
 use Rattle.layout.specs.Reading.{Entry}
-use Rattle.layout.proofs.Format.{single_response}
 use Rattle.read_entry.proofs.CountTurns.{counts}
 use Rattle.read_entry.proofs.entries.read_entries.Goals as goal
 

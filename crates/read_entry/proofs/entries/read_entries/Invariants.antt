@@ -2,11 +2,9 @@
 -- are read.
 -- Assumes nothing.
 use Prim.Native.Nat.{◌≤◌, ◌-◌}
-use native.Mathlib.Omega.{arith}
-use borrow.Author.Rules.{rules}
 use mathlib.Core.Option.{some}
 use lib.ListN.{length}
-use Rattle.codec.proofs.TurnLaws.{Turns, turn_start, turn_end, turn_over, turn_bad, turn_next, turn_place, turn_inside, turn_sum, turn_less}
+use Rattle.codec.proofs.TurnLaws.{Turns}
 use Rattle.layout.specs.Reading.{Entry}
 use Rattle.layout.proofs.Format.{single_response}
 use Rattle.read_entry.proofs.CountTurns.{counts}

@@ -1,7 +1,6 @@
 -- `read_entry_values::looks::behind` meets its contract, by where the content is.
 -- Assumes nothing.
 use Rattle.read_entry_values.proofs.LookCases.{behind_sum, behind_end, behind_wrong, behind_at}
-use borrow.Author.Rules.{rules}
 use Rattle.read_entry_values.proofs.looks.behind.Goals as goal
 
 pub overflow_add-end : goal.overflow_add-end

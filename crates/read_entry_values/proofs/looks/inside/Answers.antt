@@ -1,7 +1,6 @@
 -- `read_entry_values::looks::inside` meets its contract, by where the content is.
 -- Assumes nothing.
 use Rattle.read_entry_values.proofs.LookCases.{inside_end_lem, inside_wrong, inside_at_lem}
-use borrow.Author.Rules.{rules}
 use Rattle.read_entry_values.proofs.looks.inside.Goals as goal
 
 pub slice_bounds-result-count : goal.slice_bounds-result-count

@@ -1,7 +1,6 @@
 -- `read_entry_values::looks::look_at` meets its contract: the status behind the CertID, then the times.
 -- Assumes nothing.
 use Rattle.read_entry_values.proofs.LookCases.{look_short, look_is}
-use borrow.Author.Rules.{rules}
 use Rattle.read_entry_values.proofs.looks.look_at.Goals as goal
 
 pub view_of-requires : goal.view_of-requires

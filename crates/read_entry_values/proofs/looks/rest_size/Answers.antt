@@ -1,7 +1,6 @@
 -- `read_entry_values::looks::rest_size` meets its contract.
 -- Assumes nothing.
 use Rattle.read_entry_values.proofs.LookCases.{rest_at, rest_absent}
-use borrow.Author.Rules.{rules}
 use Rattle.read_entry_values.proofs.looks.rest_size.Goals as goal
 
 pub returns-in-At : goal.returns-in-At

@@ -1,7 +1,6 @@
 -- `read_entry_values::looks::seconds_at` meets its contract.
 -- Assumes nothing.
 use Rattle.read_entry_values.proofs.LookCases.{seconds_none, seconds_short, seconds_whole}
-use borrow.Author.Rules.{rules}
 use Rattle.read_entry_values.proofs.looks.seconds_at.Goals as goal
 
 pub returns-then-s-at : goal.returns-then-s-at

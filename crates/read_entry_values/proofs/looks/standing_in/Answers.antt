@@ -1,7 +1,6 @@
 -- `read_entry_values::looks::standing_in` meets its contract, by the tag.
 -- Assumes nothing.
 use Rattle.read_entry_values.proofs.LookCases.{standing_good, standing_unknown, standing_revoked}
-use borrow.Author.Rules.{rules}
 use Rattle.read_entry_values.proofs.looks.standing_in.Goals as goal
 
 pub returns-then-tag : goal.returns-then-tag

@@ -1,7 +1,6 @@
 -- `read_entry_values::looks::tail` meets its contract.
 -- Assumes nothing.
 use Rattle.read_entry_values.proofs.LookCases.{tail_none, tail_some}
-use borrow.Author.Rules.{rules}
 use Rattle.read_entry_values.proofs.looks.tail.Goals as goal
 
 pub returns-then-s-at : goal.returns-then-s-at

@@ -1,6 +1,5 @@
 -- `read_extension::body::read_body` meets its contract, by the OID and by what follows it.
 -- Assumes nothing.
-use borrow.Author.Rules.{rules}
 use Rattle.read_extension.proofs.BodyCases.{body_end, body_sum, body_wrong, body_after}
 use Rattle.read_extension.proofs.body.read_body.Goals as goal
 

@@ -1,6 +1,5 @@
 -- `read_extension::body::read_flagged` meets its contract, by the first octet, and then by TRUE and the value.
 -- Assumes nothing.
-use borrow.Author.Rules.{rules}
 use Rattle.layout.proofs.Format.{critical}
 use Rattle.read_sequence.specs.CaseLaws.{field_end}
 use Rattle.read_extension.proofs.BodyCases.{flag_wrong, flag_after, flag_none}

@@ -1,6 +1,5 @@
 -- `read_extension::body::read_new_oid` meets its contract, by the OID and by whether it is new.
 -- Assumes nothing.
-use borrow.Author.Rules.{rules}
 use Rattle.read_extension.proofs.BodyCases.{new_wrong, new_end, new_sum, new_pass, new_fail}
 use Rattle.read_extension.proofs.body.read_new_oid.Goals as goal
 

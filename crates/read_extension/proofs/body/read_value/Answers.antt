@@ -1,6 +1,5 @@
 -- `read_extension::body::read_value` meets its contract, by the header and by whether the value fills its holder.
 -- Assumes nothing.
-use borrow.Author.Rules.{rules}
 use Rattle.read_sequence.specs.CaseLaws.{string_sum}
 use Rattle.read_extension.proofs.BodyCases.{value_wrong, value_filled}
 use Rattle.read_extension.proofs.body.read_value.Goals as goal

@@ -1,8 +1,6 @@
 -- What is left to show of the loop.
-use borrow.Author.Rules.{rules}
 use Prim.Native.Nat.{◌-◌}
-use lib.ListN.{length}
-use Rattle.read_extensions.proofs.ListCases.{Reading, list_start, list_none, list_some, list_over, list_place, list_bad, list_sum, list_less, list_next}
+use Rattle.read_extensions.proofs.ListCases.{list_start, list_none, list_some, list_over, list_place, list_bad, list_sum, list_less, list_next}
 use Rattle.read_extensions.proofs.list.read_list.Goals as goal
 
 pub loop-at-init : goal.loop-at-init

@@ -1,10 +1,9 @@
 -- `read_extensions::list::read_list` meets its contract. The loop is at a place up to which count extensions
 -- are read.
 -- Assumes nothing.
-use borrow.Author.Rules.{rules}
 use Prim.Native.Nat.{◌-◌}
 use lib.ListN.{length}
-use Rattle.read_extensions.proofs.ListCases.{Reading, list_start, list_none, list_some, list_over, list_place, list_bad, list_sum, list_less, list_next}
+use Rattle.read_extensions.proofs.ListCases.{Reading}
 use Rattle.read_extensions.proofs.list.read_list.Given as goal
 
 abbrev pub invariant-loop-at : goal.invariant-loop-at

@@ -1,7 +1,6 @@
 -- What is left to show of the loop.
-use borrow.Author.Rules.{rules}
 use Rattle.read_oids.specs.NameLaws.{place_first, place_last, place_end, place_next_lem}
-use Rattle.read_oids.proofs.NameCases.{Looking, look_start, look_end, look_none, look_hit, look_next}
+use Rattle.read_oids.proofs.NameCases.{look_start, look_end, look_none, look_hit, look_next}
 use Rattle.read_oids.proofs.names.is_new.Goals as goal
 
 pub loop-left-init : goal.loop-left-init

@@ -1,6 +1,5 @@
 -- `read_oids::names::name_at` meets its contract, by the two headers.
 -- Assumes nothing.
-use borrow.Author.Rules.{rules}
 use Rattle.read_content.specs.ExpectLaws.{content_end, content_sum}
 use Rattle.read_oids.proofs.NameCases.{name_wrong, name_bare, name_first, name_is}
 use Rattle.read_oids.proofs.names.name_at.Goals as goal

@@ -1,6 +1,5 @@
 -- `read_sequence::sequence::after` meets its contract, by the answer.
 -- Assumes nothing.
-use borrow.Author.Rules.{rules}
 use Rattle.read_sequence.proofs.JudgedCases.{after_fits, after_breaks}
 use Rattle.read_sequence.proofs.judged.after.Goals as goal
 

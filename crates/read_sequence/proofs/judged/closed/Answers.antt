@@ -1,6 +1,5 @@
 -- `read_sequence::sequence::closed` meets its contract, by the answer.
 -- Assumes nothing.
-use borrow.Author.Rules.{rules}
 use Rattle.read_sequence.proofs.JudgedCases.{closed_fits, closed_breaks}
 use Rattle.read_sequence.proofs.judged.closed.Goals as goal
 

@@ -1,6 +1,5 @@
 -- `read_sequence::sequence::filled` meets its contract, by the answer and whether all is taken.
 -- Assumes nothing.
-use borrow.Author.Rules.{rules}
 use Rattle.read_sequence.proofs.JudgedCases.{filled_bad, filled_same, filled_left}
 use Rattle.read_sequence.proofs.judged.filled.Goals as goal
 

@@ -1,6 +1,5 @@
 -- `read_sequence::judged::place_in` meets its contract, by whether the place lies beyond the end.
 -- Assumes nothing.
-use borrow.Author.Rules.{rules}
 use Rattle.read_sequence.proofs.JudgedCases.{place_before, place_beyond, place_inside}
 use Rattle.read_sequence.proofs.judged.place_in.Goals as goal
 

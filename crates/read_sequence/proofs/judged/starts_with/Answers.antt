@@ -1,6 +1,5 @@
 -- `read_sequence::sequence::starts_with` meets its contract, by whether there is an octet.
 -- Assumes nothing.
-use borrow.Author.Rules.{rules}
 use Rattle.read_sequence.proofs.JudgedCases.{first_none, first_is}
 use Rattle.read_sequence.proofs.judged.starts_with.Goals as goal
 

@@ -1,10 +1,9 @@
 -- What is left to show of the loop.
-use Prim.Native.Nat.{◌≤◌, ◌-◌}
+use Prim.Native.Nat.{◌-◌}
 use native.Mathlib.Omega.{arith}
 use mathlib.Core.Option.{some}
-use lib.ListN.{length}
 use borrow.Author.Rules.{rules}
-use Rattle.codec.proofs.TurnLaws.{fits, Turns, turn_start, turn_end, turn_over, turn_bad, turn_next, turn_place, turn_inside, turn_sum, turn_less}
+use Rattle.codec.proofs.TurnLaws.{fits, turn_start, turn_end, turn_over, turn_bad, turn_next, turn_place, turn_inside, turn_sum, turn_less}
 use Rattle.codec.specs.Tree.{Tree}
 use Rattle.layout.proofs.ElementKinds.{free_sequence}
 use Rattle.read_signer.specs.Run.{certificate_run}

@@ -2,14 +2,11 @@
 -- certificates are read.
 -- Assumes nothing.
 use Prim.Native.Nat.{◌≤◌, ◌-◌}
-use native.Mathlib.Omega.{arith}
 use mathlib.Core.Option.{some}
 use lib.ListN.{length}
-use borrow.Author.Rules.{rules}
-use Rattle.codec.proofs.TurnLaws.{fits, Turns, turn_start, turn_end, turn_over, turn_bad, turn_next, turn_place, turn_inside, turn_sum, turn_less}
+use Rattle.codec.proofs.TurnLaws.{fits, Turns}
 use Rattle.codec.specs.Tree.{Tree}
 use Rattle.layout.proofs.ElementKinds.{free_sequence}
-use Rattle.read_signer.specs.Run.{certificate_run}
 use Rattle.read_signer.proofs.certificates.certificate_run.Given as goal
 
 abbrev pub invariant-loop-at : goal.invariant-loop-at

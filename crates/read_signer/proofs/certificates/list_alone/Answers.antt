@@ -1,6 +1,5 @@
 -- `read_signer::certificates::list_alone` meets its contract, by the element and its holder's size.
 -- Assumes nothing.
-use borrow.Author.Rules.{rules}
 use Rattle.read_signer.specs.Run.{certificate_run}
 use Rattle.read_sequence.specs.CaseLaws.{filled_only}
 use Rattle.layout.proofs.ElementKinds.{sequence}

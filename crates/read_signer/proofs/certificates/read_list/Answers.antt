@@ -1,6 +1,5 @@
 -- `read_signer::certificates::read_list` meets its contract, by the header and the content.
 -- Assumes nothing.
-use borrow.Author.Rules.{rules}
 use Rattle.read_sequence.specs.CaseLaws.{tagged_wrong, tagged_sum, tagged_end, tagged_closed}
 use Rattle.read_signer.proofs.certificates.read_list.Goals as goal
 

@@ -1,6 +1,5 @@
 -- `read_signer::responders::key_alone` meets its contract, by the string and its holder's size.
 -- Assumes nothing.
-use borrow.Author.Rules.{rules}
 use Rattle.read_signer.proofs.SpotCases.{alone_wrong, alone_filled}
 use Rattle.read_sequence.specs.CaseLaws.{string_sum}
 use Rattle.read_signer.proofs.responders.key_alone.Goals as goal

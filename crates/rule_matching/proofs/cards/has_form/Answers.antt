@@ -1,6 +1,5 @@
 -- `rule_matching::cards::has_form` meets its contract, by the length, the serial, both hashes and the head.
 -- Assumes nothing.
-use borrow.Author.Rules.{rules}
 use Rattle.rule_matching.proofs.FormCases.{other_end, other_serial, other_name, other_key, head_same}
 use Rattle.rule_matching.proofs.cards.has_form.Goals as goal
 

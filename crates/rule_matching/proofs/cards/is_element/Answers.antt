@@ -1,7 +1,6 @@
 -- `rule_matching::cards::is_element` meets its contract, by the length, the tag, the length octet and the content.
 -- Assumes nothing.
 use native.Mathlib.Omega.{arith}
-use borrow.Author.Rules.{rules}
 use Rattle.rule_matching.proofs.FormCases.{other_size, other_tag, other_length, content_same}
 use Rattle.rule_matching.proofs.cards.is_element.Goals as goal
 

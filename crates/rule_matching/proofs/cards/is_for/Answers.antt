@@ -1,6 +1,5 @@
 -- `rule_matching::cards::is_for` meets its contract, by the lengths, the last octet, and the one head or the other.
 -- Assumes nothing.
-use borrow.Author.Rules.{rules}
 use Rattle.rule_matching.proofs.FieldCases.{long_name, long_key, long_serial, other_last, plain_same, null_same}
 use Rattle.rule_matching.proofs.cards.is_for.Goals as goal
 

@@ -1,5 +1,4 @@
 -- `rule_matching::cards::last` meets its contract. Assumes nothing.
-use borrow.Author.Rules.{rules}
 use Rattle.rule_matching.proofs.FieldCases.{last_none}
 use Rattle.rule_matching.proofs.cards.last.Goals as goal
 

@@ -1,6 +1,5 @@
 -- `slip::rules::card_fits` meets its contract: the card rule, or the empty card.
 -- Assumes nothing.
-use borrow.Author.Rules.{rules}
 use Rattle.slip.proofs.RuleCases.{card_carded, card_empty}
 use Rattle.slip.proofs.rules.card_fits.Goals as goal
 

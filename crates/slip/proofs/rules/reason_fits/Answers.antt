@@ -1,6 +1,5 @@
 -- `slip::rules::reason_fits` meets its contract: 7, up to 10, or absent.
 -- Assumes nothing.
-use borrow.Author.Rules.{rules}
 use Rattle.slip.proofs.RuleCases.{reason_seven, reason_most, reason_absent}
 use Rattle.slip.proofs.rules.reason_fits.Goals as goal
 

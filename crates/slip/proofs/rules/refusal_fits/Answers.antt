@@ -1,6 +1,5 @@
 -- `slip::rules::refusal_fits` meets its contract: below 1, above 16, else the status decides.
 -- Assumes nothing.
-use borrow.Author.Rules.{rules}
 use Rattle.slip.proofs.RuleCases.{number_none, number_more, number_fits}
 use Rattle.slip.proofs.rules.refusal_fits.Goals as goal
 

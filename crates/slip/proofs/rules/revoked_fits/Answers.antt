@@ -1,6 +1,5 @@
 -- `slip::rules::revoked_fits` meets its contract: the times, the revocationTime, then the reason.
 -- Assumes nothing.
-use borrow.Author.Rules.{rules}
 use Rattle.slip.proofs.RuleCases.{revoked_times, revoked_late, revoked_reason}
 use Rattle.slip.proofs.rules.revoked_fits.Goals as goal
 

@@ -1,6 +1,5 @@
 -- `slip::rules::slip_fits` meets its contract: the verdict, then the card.
 -- Assumes nothing.
-use borrow.Author.Rules.{rules}
 use Rattle.slip.proofs.RuleCases.{fits_not, fits_card}
 use Rattle.slip.proofs.rules.slip_fits.Goals as goal
 

@@ -1,6 +1,5 @@
 -- `slip::rules::status_fits` meets its contract: with number 4, or with another.
 -- Assumes nothing.
-use borrow.Author.Rules.{rules}
 use Rattle.slip.proofs.RuleCases.{status_four, status_zero}
 use Rattle.slip.proofs.rules.status_fits.Goals as goal
 

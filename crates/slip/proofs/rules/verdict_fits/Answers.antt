@@ -1,6 +1,5 @@
 -- `slip::rules::verdict_fits` meets its contract: by the case of the verdict.
 -- Assumes nothing.
-use borrow.Author.Rules.{rules}
 use Rattle.slip.proofs.RuleCases.{accepted_good, accepted_revoked, accepted_unknown, accepted_refusal}
 use Rattle.slip.proofs.rules.verdict_fits.Goals as goal
 

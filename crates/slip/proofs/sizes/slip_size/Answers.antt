@@ -1,6 +1,6 @@
 -- `slip::sizes::slip_size` meets its contract: the size by the kind.
 -- Assumes nothing.
-use borrow.Author.Rules.{rules, length_unmapped}
+use borrow.Author.Rules.{length_unmapped}
 use Rattle.slip.proofs.KindCases.{size_known}
 use Rattle.slip.proofs.sizes.slip_size.Goals as goal
 

@@ -1,6 +1,5 @@
 -- `slip_read::readers::card_under` meets its contract: with a card, or without.
 -- Assumes nothing.
-use borrow.Author.Rules.{rules}
 use Rattle.slip_read.proofs.BodyCases.{under_card, under_empty}
 use Rattle.slip_read.proofs.readers.card_under.Goals as goal
 

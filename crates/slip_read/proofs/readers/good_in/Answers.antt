@@ -1,6 +1,5 @@
 -- `slip_read::readers::good_in` meets its contract: two numbers.
 -- Assumes nothing.
-use borrow.Author.Rules.{rules}
 use Rattle.slip_read.proofs.BodyCases.{good_said}
 use Rattle.slip_read.proofs.readers.good_in.Goals as goal
 

@@ -1,6 +1,5 @@
 -- `slip_read::readers::parse` meets its contract: nothing, another length, or a body of its kind.
 -- Assumes nothing.
-use borrow.Author.Rules.{rules}
 use Rattle.slip_read.proofs.ReadCases.{parse_none, parse_size, parse_room, parse_said}
 use Rattle.slip_read.proofs.readers.parse.Goals as goal
 

@@ -1,6 +1,5 @@
 -- `slip_read::readers::read_slip` meets its contract: the rules are kept, or not.
 -- Assumes nothing.
-use borrow.Author.Rules.{rules}
 use Rattle.slip_read.proofs.ReadCases.{read_fits, read_not}
 use Rattle.slip_read.proofs.readers.read_slip.Goals as goal
 

@@ -1,6 +1,5 @@
 -- `slip_read::readers::refusal_in` meets its contract: two octets.
 -- Assumes nothing.
-use borrow.Author.Rules.{rules}
 use Rattle.slip_read.proofs.BodyCases.{refusal_said}
 use Rattle.slip_read.proofs.readers.refusal_in.Goals as goal
 

@@ -1,6 +1,5 @@
 -- `slip_read::readers::revoked_in` meets its contract: three numbers and an octet.
 -- Assumes nothing.
-use borrow.Author.Rules.{rules}
 use Rattle.slip_read.proofs.BodyCases.{revoked_said}
 use Rattle.slip_read.proofs.readers.revoked_in.Goals as goal
 

@@ -1,6 +1,5 @@
 -- `slip_read::readers::unknown_in` meets its contract: two numbers.
 -- Assumes nothing.
-use borrow.Author.Rules.{rules}
 use Rattle.slip_read.proofs.BodyCases.{unknown_said}
 use Rattle.slip_read.proofs.readers.unknown_in.Goals as goal
 

@@ -1,6 +1,6 @@
 -- `slip_write::puts::put_card` meets its contract: three writes in a row are one.
 -- Assumes nothing.
-use borrow.Author.Rules.{rules, length_unmapped}
+use borrow.Author.Rules.{length_unmapped}
 use Rattle.slip_write.proofs.PutCases.{put_card}
 use Rattle.slip_write.proofs.puts.put_card.Goals as goal
 

@@ -1,6 +1,6 @@
 -- `slip_write::puts::put_hashes` meets its contract: two writes in a row are one.
 -- Assumes nothing.
-use borrow.Author.Rules.{rules, length_unmapped}
+use borrow.Author.Rules.{length_unmapped}
 use Rattle.slip_write.proofs.PutCases.{put_hashes}
 use Rattle.slip_write.proofs.puts.put_hashes.Goals as goal
 

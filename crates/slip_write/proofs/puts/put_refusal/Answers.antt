@@ -1,6 +1,5 @@
 -- `slip_write::puts::put_refusal` meets its contract: three writes in a row are one.
 -- Assumes nothing.
-use borrow.Author.Rules.{rules}
 use Rattle.slip_write.proofs.PutCases.{put_refusal}
 use Rattle.slip_write.proofs.puts.put_refusal.Goals as goal
 

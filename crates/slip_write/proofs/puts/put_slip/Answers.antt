@@ -1,6 +1,5 @@
 -- `slip_write::puts::put_slip` meets its contract: by the case of the verdict.
 -- Assumes nothing.
-use borrow.Author.Rules.{rules}
 use Rattle.slip_write.proofs.VerdictCases.{room_good, room_revoked, room_unknown, room_refusal, slip_good, slip_revoked, slip_unknown, slip_refusal_lem}
 use Rattle.slip_write.proofs.puts.put_slip.Goals as goal
 

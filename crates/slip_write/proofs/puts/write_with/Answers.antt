@@ -1,6 +1,6 @@
 -- `slip_write::puts::write_with` meets its contract: refused, or written.
 -- Assumes nothing.
-use borrow.Author.Rules.{rules, length_unmapped}
+use borrow.Author.Rules.{length_unmapped}
 use Rattle.slip_write.proofs.WriteCases.{room_known, answer_refused, buffer_kept, answer_octets, buffer_written}
 use Rattle.slip_write.proofs.puts.write_with.Goals as goal
 

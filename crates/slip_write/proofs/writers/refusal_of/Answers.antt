@@ -1,6 +1,5 @@
 -- `slip_write::writers::refusal_of` meets its contract: the rules are kept, or not.
 -- Assumes nothing.
-use borrow.Author.Rules.{rules}
 use Rattle.slip_write.proofs.RuleCases.{refusal_none, refusal_some}
 use Rattle.slip_write.proofs.writers.refusal_of.Goals as goal
 

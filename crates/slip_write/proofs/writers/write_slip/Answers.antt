@@ -1,5 +1,4 @@
 -- `slip_write::writers::write_slip` meets its contract: with the refusal of the slip rules. Assumes nothing.
-use borrow.Author.Rules.{rules}
 use Rattle.slip_write.proofs.RuleCases.{own_answer, own_buffer}
 use Rattle.slip_write.proofs.writers.write_slip.Goals as goal
 

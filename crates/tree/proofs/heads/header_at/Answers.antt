@@ -1,7 +1,6 @@
 -- `tree::heads::header_at` meets its contract: by two octets where the header is short, else by the whole header.
 -- Assumes nothing.
 use native.Mathlib.Omega.{arith}
-use borrow.Author.Rules.{rules}
 use Rattle.element.specs.ShortLaws.{short_first, short_second, short_found}
 use Rattle.tree.proofs.heads.header_at.Goals as goal
 

@@ -1,7 +1,6 @@
 -- `tree::heads::light` meets its contract: 0 is refuted, and any other number is that of a short header.
 -- Assumes nothing.
 use native.Mathlib.Omega.{arith}
-use borrow.Author.Rules.{rules}
 use Rattle.tree.proofs.LightCases.{light_taken}
 use Rattle.tree.proofs.heads.light.Goals as goal
 

@@ -1,4 +1,0 @@
-pub mod Made
-pub mod Held
-pub mod Lent
-pub mod Stepping
