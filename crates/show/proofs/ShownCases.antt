@@ -4,35 +4,32 @@
 -- Assumes nothing.
 use Prim.Native.Nat.{ℕ, ◌-◌, ◌≤◌, ◌<◌}
 use native.Mathlib.Omega.{arith}
-use mathlib.Core.Path.{◌≡◌, sym, ap, ◌∙◌}
+use mathlib.Core.Path.{◌≡◌, refl, sym, ap, ◌∙◌}
 use mathlib.Core.List.{List, [], ◌∷◌}
 use lib.ListN.{length, take, drop, drop_of_length-le}
 use lib.Seq.{take-nil, take_all, length-take-le}
-use denote.Enum.Declared.{tag_of}
-use types.Run.{OneOf, miss}
 use Rattle.octets.specs.LentLaws.{rest_is}
 use Rattle.read_response.specs.declared.Span.{Span}
 use Rattle.read_response.specs.declared.Parts.{Parts}
 use Rattle.read_response.specs.declared.Judged.{Judged}
 use Rattle.read_response.specs.declared.Judged.TheVariants as judged
-use Rattle.read_response.specs.contracts.Judged.{the_type}
 use Rattle.show.specs.Parts.{no_parts, shown_parts}
 use Rattle.show.specs.Shown.{octets_in}
 
--- what an arm `_` knows of what is judged: its tag is one of those after the first
+-- what an arm `_` knows of what is judged: it is none with parts
 abbrev pub Refused : Judged → Type 0
-Refused j = OneOf (1 ∷ 2 ∷ 3 ∷ 4 ∷ []) (tag_of the_type j)
+Refused j = (t : Parts) → j ≡ judged.Basic t → ⊥
 
 pub parts_none : (j : Judged) → Refused j → (p : Parts) → p ≡ no_parts → p ≡ shown_parts j
 unfolding shown_parts
-parts_none (judged.Basic t) k p e = absurd (miss (1 ∷ 2 ∷ 3 ∷ 4 ∷ []) 0 tt k)
+parts_none (judged.Basic t) k p e = absurd (k t refl)
 parts_none judged.TooLong k p e = e
 parts_none (judged.Unfit n) k p e = e
 parts_none (judged.Failed n) k p e = e
 parts_none judged.OtherType k p e = e
 
 pub not_basic : (j : Judged) → Refused j → (t : Parts) → j ≡ judged.Basic t → ⊥
-not_basic j k t e = miss (1 ∷ 2 ∷ 3 ∷ 4 ∷ []) 0 tt (rw e at k)
+not_basic j k t e = k t e
 
 -- the first n octets are n octets, where there are so many
 pub counted : (n : ℕ) (s : List ℕ) → n ≤ length s → n ≡ length (take n s)

@@ -4,7 +4,7 @@
 -- Assumes nothing.
 use Rattle.std.specs.Prelude.{ℕ, ◌≡◌, List, [], ◌∷◌, ◌++◌, replicate}
 use Rattle.std.proofs.Math.Path.{refl}
-use denote.Ref.{MutBor, at_last}
+use Rattle.std.specs.Borrow.{Bor}
 use Rattle.layout.proofs.Opened.{opened}
 use Rattle.layout.specs.Examples.{type_element, first, hashes, signature}
 use Rattle.layout.specs.Sha1.{sha1}
@@ -31,9 +31,9 @@ two =
     ++ (0x30 ∷ 0x52 ∷ unknown_entry) ++ good_entry ++ signature
 
 -- wherever it is lent from
-module _ (x : MutBor (List ℕ)) where
-  abbrev lent_two : MutBor (List ℕ)
-  lent_two = at_last x two
+module _ (x : Bor (List ℕ)) where
+  abbrev lent_two : Bor (List ℕ)
+  lent_two = record x { now = two }
 
   -- four steps hand out two parts
   two_handed : handed 4 (start_of lent_two) ≡ unknown_entry ∷ good_entry ∷ []
@@ -51,8 +51,8 @@ module _ (x : MutBor (List ℕ)) where
   last_place = (refl, refl)
 
   -- ── an error response ──
-  abbrev lent_failed : MutBor (List ℕ)
-  lent_failed = at_last x (0x30 ∷ 0x03 ∷ 0x0a ∷ 0x01 ∷ 0x06 ∷ [])
+  abbrev lent_failed : Bor (List ℕ)
+  lent_failed = record x { now = 0x30 ∷ 0x03 ∷ 0x0a ∷ 0x01 ∷ 0x06 ∷ [] }
 
   -- 4, and its status, at any place, which stays
   failed_said : (k : ℕ) → (say_of (at lent_failed k) ≡ entry.Refused 4 6 place.Absent) × (hand_of (at lent_failed k) ≡ []) × (moved_of (at lent_failed k) ≡ at lent_failed k)

@@ -1,5 +1,5 @@
 -- `cache_place::slips::slip_fits` meets its contract. Assumes nothing.
-use borrow.Author.Tests.{not-false}
+use Rattle.std.proofs.Common.{ap, not}
 use Rattle.cache_place.proofs.SlipCases.{slip_none, slip_other, slip_size_lem, slip_room, slip_rules}
 use Rattle.cache_place.proofs.slips.slip_fits.Goals as goal
 
@@ -17,7 +17,7 @@ rules_fit-requires c = slip_room
     c.args.t.now
     c.has_card.result
     c.has_card.ensures
-    (not-false c.has_card.result c.if-not-has_card.false)
+    (ap not c.if-not-has_card.false)
     c.size_of-size.result
     c.size_of-size.ensures
     c.if-t-size.false

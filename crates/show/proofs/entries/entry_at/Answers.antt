@@ -20,4 +20,4 @@ pub returns-else-count-place : goal.returns-else-count-place
 returns-else-count-place c = search entry_found
 
 pub returns-in_default : goal.returns-in_default
-returns-in_default c = search entry_none
+returns-in_default c = entry_none c.args.s.now c.args.place c.judge-judged.result c.judge-judged.ensures c.in_default.not-Basic c.refuse_entry.result c.refuse_entry.ensures

@@ -4,14 +4,10 @@ use Rattle.show.specs.Parts.{shown_parts}
 use Rattle.show.proofs.ShownCases.{parts_none}
 use Rattle.show.proofs.parts.parts_of.Goals as goal
 
-pub no_parts-requires : goal.no_parts-requires
-unfolding shown_parts
-no_parts-requires c = search rules
-
 pub returns-in-Basic : goal.returns-in-Basic
 unfolding shown_parts
-returns-in-Basic c = rw c.judged-1.given.1
+returns-in-Basic c = rw c.in-Basic.is
 
 pub returns-in_default : goal.returns-in_default
 unfolding shown_parts
-returns-in_default c = search parts_none
+returns-in_default c = parts_none c.args.judged c.in_default.not-Basic c.no_parts.result c.no_parts.ensures

@@ -1,0 +1,10 @@
+-- `cache_line::answers::tell_filed` meets its contract. Assumes nothing.
+use Rattle.cache_line.proofs.Cases.{told_count, told_count_cache, told_refused, told_nothing}
+use borrow.Author.Rules.{rules}
+use Rattle.cache_line.proofs.answers.tell_filed.Goals as goal
+
+pub returns-in-Count : goal.returns-in-Count
+returns-in-Count c = record { wrote = search told_count; wrote_2 = search told_count_cache }
+
+pub returns-in-Refused : goal.returns-in-Refused
+returns-in-Refused c = record { wrote = search told_refused; wrote_2 = search told_nothing }

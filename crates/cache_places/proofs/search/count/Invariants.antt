@@ -1,0 +1,11 @@
+-- `cache_places::search::count` meets its contract. Assumes nothing.
+use borrow.Author.Rules.{rules}
+use Prim.Native.Nat.{◌-◌}
+use Rattle.cache_places.proofs.Turns.{Counted, count_start, count_room, count_next, count_end}
+use Rattle.cache_places.proofs.search.count.Given as goal
+
+abbrev pub invariant-loop-i : goal.invariant-loop-i
+invariant-loop-i l = Counted l.s l.n l.i
+
+abbrev pub decreases-loop-i : goal.decreases-loop-i
+decreases-loop-i l = 64 - l.i
