@@ -3,11 +3,9 @@
 -- tell_here, tell_none, tell_refused, tell_says; card_slip, asks.
 -- Assumes nothing.
 use Prim.Native.Nat.{ℕ, ◌-◌, ◌≤◌, ◌<◌}
-use native.Mathlib.Omega.{arith}
 use mathlib.Core.Path.{◌≡◌, refl, sym, ap, ◌∙◌}
-use mathlib.Core.Bool.{Bool, true, false, cond, not}
+use mathlib.Core.Bool.{Bool, true, false, not}
 use mathlib.Core.List.{List, []}
-use lib.Dec.{eqb, leb}
 use lib.ListN.{length, get_or, take, drop, replicate}
 use borrow.Author.Tests.{eq-eqb, ne_eqb, le-leb, lt-leb, not-true, not-false}
 use mir.Syntax.{w8}
@@ -20,7 +18,6 @@ use Rattle.freshness.specs.Clock.{clock_ok}
 use Rattle.freshness.specs.Fresh.{fresh_of, fresh_refusal}
 use Rattle.answer.specs.declared.Card.{Card}
 use Rattle.answer.specs.declared.Answer.{Answer}
-use Rattle.answer.specs.declared.Verdict.TheVariants.{Good}
 use Rattle.answer.specs.Card.{card_ok, empty_card}
 use Rattle.answer.specs.Verdict.{refused}
 use Rattle.fields.specs.Field.{card_in}

@@ -1,7 +1,7 @@
 -- What is told of what is found is what asking gives; and the card's octets in its slip are those that are looked for.
 -- good, slip_card; found_told_lem.
 -- The definitions are in Found, asking in crate cache_rules. Assumes nothing.
-use Rattle.std.specs.Prelude.{ℕ, zero, ◌≤◌, ◌<◌, ◌≡◌, Bool, eqb, leb, length, get_or, replicate}
+use Rattle.std.specs.Prelude.{ℕ, ◌≤◌, ◌<◌, ◌≡◌, Bool, eqb, leb, length, get_or, replicate}
 use Rattle.std.proofs.Common.{arith, ◌∙◌, eq-eqb, le-leb, leb-true, leb-false}
 use Rattle.std.proofs.Math.Path.{refl, sym, ap}
 use Rattle.std.proofs.Math.Bool.{true, false, cond}
@@ -10,13 +10,12 @@ use Rattle.std.proofs.Math.ListN.{take, drop}
 use Rattle.std.proofs.Math.Seq.{take_at}
 use Rattle.std.proofs.lemmas.Bool.{lt-leb}
 use Rattle.octets.specs.Octets.{Octets}
-use Rattle.octets.specs.Number.{octets_of}
 use Rattle.freshness.specs.declared.Clock.{Clock}
 use Rattle.freshness.specs.Clock.{clock_ok}
 use Rattle.answer.specs.declared.Card.{Card}
 use Rattle.answer.specs.declared.Answer.{Answer}
 use Rattle.answer.specs.declared.Verdict.TheVariants.{Good}
-use Rattle.answer.specs.Card.{card_ok, field_ok}
+use Rattle.answer.specs.Card.{card_ok}
 use Rattle.answer.specs.CardLaws.{field_exactly}
 use Rattle.answer.specs.Verdict.{saying, refused}
 use Rattle.fields.specs.Field.{card_in}
@@ -31,17 +30,16 @@ use Rattle.slip.specs.CardOctetsLaws.{card_length, card_read}
 use Rattle.slip.specs.SlipLaws.{slip_length}
 use Rattle.cache_room.specs.Room.{held_at}
 use Rattle.cache_room.proofs.FirstLaws.{held_card}
-use Rattle.cache_rules.specs.Place.{places, card_at, says_at, is_said, this_of, next_of}
+use Rattle.cache_rules.specs.Place.{places, card_at, says_at}
 use Rattle.cache_rules.proofs.FitLaws.{full_said}
-use Rattle.cache_rules.specs.Cache.{room_of, place_in, is_cache, told, not_held, missed_at, said_at, ask_of}
+use Rattle.cache_rules.specs.Cache.{room_of, place_in, is_cache, told, missed_at, said_at, ask_of}
 use Rattle.cache_rules.proofs.CacheLaws.{cache_exactly, room_length, place_octets, place_fit}
 use Rattle.cache_rules.proofs.AskLaws.{ask_19, ask_clock, ask_card, ask_none, ask_held}
 use Rattle.cache_rules.proofs.HeldLaws.{card_nonempty}
-use Rattle.cache_place.specs.Times.{this_at, next_at}
 use Rattle.cache_place.specs.TimesLaws.{place_times}
 use Rattle.cache_places.specs.Evenly.{evenly}
 use Rattle.cache_places.specs.EvenlyLaws.{even_room}
-use Rattle.cache_ask.specs.declared.Sought.TheVariants.{At, NotHeld, Refused}
+use Rattle.cache_ask.specs.declared.Sought.TheVariants.{At, Refused}
 use Rattle.cache_ask.specs.Found.{card_in_range, card_or_zeros, misses_at, found_in, ask_found, told_in}
 
 -- ---- the card in its slip

@@ -1,11 +1,11 @@
 -- A filing in parts is the filing: in a cache, for a slip that may be filed, at a time in range.
 -- own_card; held_filed_lem, held_left; new_filed_lem, new_left.
 -- The definitions are in Put, the filing in crate cache_rules. Assumes nothing.
-use Rattle.std.specs.Prelude.{ℕ, ◌*◌, ◌≤◌, ◌<◌, ◌≡◌, Bool, length, get_or}
+use Rattle.std.specs.Prelude.{ℕ, ◌*◌, ◌≤◌, ◌<◌, ◌≡◌, Bool, get_or}
 use Rattle.std.proofs.Common.{arith, ◌∙◌}
 use Rattle.std.proofs.Math.Path.{refl, sym, ap}
 use Rattle.std.proofs.Math.Bool.{true, false, cond}
-use mathlib.Core.List.{List, [], ◌++◌, append-nil}
+use mathlib.Core.List.{List, [], append-nil}
 use Rattle.std.proofs.Math.Dec.{leb, ltb}
 use borrow.Author.Tests.{lt-ltb, le-ltb, ltb-true, ltb-false, leb-true, leb-false}
 use Rattle.octets.specs.Octets.{Octets}
@@ -18,7 +18,7 @@ use Rattle.cache_room.specs.Room.{is_empty, held_at, count, is_free, free_at, ke
 use Rattle.cache_room.proofs.FirstLaws.{first_same, held_card}
 use Rattle.cache_room.proofs.TakenLaws.{taken_held, taken_free}
 use Rattle.cache_rules.specs.declared.Filed.TheVariants.{Count, Refused}
-use Rattle.cache_rules.specs.Place.{width, places, card_at, says_at, is_said, place_of, this_of, is_stale, wins_of, says_of}
+use Rattle.cache_rules.specs.Place.{places, card_at, says_at, is_said, place_of, this_of, is_stale, wins_of, says_of}
 use Rattle.cache_rules.proofs.PlaceLaws.{place_card, card_there, card_some}
 use Rattle.cache_rules.proofs.FitLaws.{full_said}
 use Rattle.cache_rules.specs.Cache.{room_of, place_in, is_cache, takes, filing_refusal, filed_of, buffer_of}

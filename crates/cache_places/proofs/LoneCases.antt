@@ -1,18 +1,16 @@
 -- No card twice: what one place more tells, by the marks that were met and by the cards themselves.
 -- lone_empty, marks_empty; lone_met; mark_inside, marks_next, lone_new; Apart, apart_start, marks_start, apart_stop, apart_next, apart_end.
 -- Assumes nothing.
-use Prim.Native.Nat.{ℕ, zero, suc, ◌+◌, ◌≤◌, ◌<◌}
+use Prim.Native.Nat.{ℕ, suc, ◌+◌, ◌≤◌, ◌<◌}
 use native.Mathlib.Nat.{not-suc-le-zero, mod-lt}
-use native.Mathlib.Numerals.{add-one}
 use native.Mathlib.Omega.{arith}
 use mathlib.Core.Path.{◌≡◌, refl, sym, ap, ◌∙◌}
 use mathlib.Core.Bool.{Bool, true, false, cond, not}
-use mathlib.Core.List.{List, [], ◌∷◌}
+use mathlib.Core.List.{List, []}
 use lib.Dec.{eqb, leb}
 use lib.ListN.{length, get_or, set, take, replicate, length-set, length-replicate}
 use lib.Seq.{length-take-le, get_or-take, get_or-set_same, get_or-set_other}
 use borrow.Author.Tests.{eqb-true, eqb-false, le-leb, leb-true, leb-false, not-true, not-false}
-use Rattle.octets.specs.Same.{same_of}
 use Rattle.octets.specs.SameLaws.{impossible, same_true, same_false}
 use Rattle.cache_room.specs.Room.{is_empty, held_at, cards_once}
 use Rattle.cache_room.proofs.FirstLaws.{held_card, held_there, held_none}

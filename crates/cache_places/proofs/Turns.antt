@@ -2,20 +2,20 @@
 -- first_stop, first_next, first_end; held_start, held_stop, held_next, held_end; free_start, free_stop, free_next, free_end;
 -- fit_start, fit_stop, fit_next, fit_end; count_start, count_room, count_next, count_end.
 -- Assumes nothing.
-use Prim.Native.Nat.{ℕ, zero, suc, ◌+◌, ◌≤◌, ◌<◌}
+use Prim.Native.Nat.{ℕ, suc, ◌+◌, ◌≤◌, ◌<◌}
 use native.Mathlib.Nat.{le_antisymm}
 use native.Mathlib.Numerals.{add-one}
 use native.Mathlib.Omega.{arith}
-use mathlib.Core.Path.{◌≡◌, refl, sym, ap, ◌∙◌}
+use mathlib.Core.Path.{◌≡◌, refl, sym, ◌∙◌}
 use mathlib.Core.Bool.{Bool, true, false, cond, not}
-use mathlib.Core.List.{List, [], ◌∷◌}
+use mathlib.Core.List.{List, []}
 use lib.ListN.{length, get_or, take, drop, drop_of_length-le}
 use lib.Seq.{drop-cons, length-take-le, get_or-take}
 use borrow.Author.Tests.{not-true, not-false}
 use Rattle.octets.specs.Same.{same_of}
 use Rattle.freshness.specs.declared.Clock.{Clock}
 use Rattle.cache_room.specs.Room.{first_at, is_empty, has_card, held_at, is_free, free_at, count}
-use Rattle.cache_rules.specs.Place.{places, card_at, place_ok}
+use Rattle.cache_rules.specs.Place.{card_at, place_ok}
 use Rattle.cache_rules.specs.Cache.{all_fit}
 use Rattle.cache_place.specs.Times.{late_at}
 use Rattle.cache_places.specs.Evenly.{evenly}

@@ -7,7 +7,6 @@ use Rattle.answer.specs.declared.Card.{Card}
 use Rattle.answer.specs.declared.Verdict.TheVariants.{Good}
 use Rattle.answer.specs.Verdict.{saying, refused}
 use Rattle.slip.specs.Slip.{slip_of}
-use Rattle.slip.specs.Examples as slip
 use Rattle.freshness.specs.declared.Clock.{Clock}
 use Rattle.cache_rules.specs.declared.Filed.TheVariants.{Count, Refused}
 use Rattle.cache_rules.specs.Cache.{is_cache, filed_of, buffer_of, told, not_held, ask_of}

@@ -6,9 +6,7 @@ use Rattle.std.specs.Prelude.{ℕ, List, [], ◌∷◌, ◌++◌, replicate}
 use Rattle.octets.specs.Buffer.{room_for}
 use Rattle.octets.specs.Number.{value_of, number_at}
 use Rattle.answer.specs.Card.{all_zero}
-use Rattle.answer.specs.declared.Place.TheVariants as place
 use Rattle.fields.specs.Field.{field_at, value_at, card_in}
-use Rattle.rules.specs.Examples as ruling
 use Rattle.desk_question.specs.Asked.{question_in, name_in, fill_in, question_ok}
 
 -- what reading a question computes with: a proof that says `unfolding read` opens it

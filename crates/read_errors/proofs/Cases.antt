@@ -4,9 +4,9 @@
 use Prim.Native.Nat.{ℕ, ◌≤◌, ◌<◌}
 use native.Mathlib.Omega.{arith}
 use mathlib.Core.Path.{◌≡◌, refl, sym, ap, ◌∙◌}
-use mathlib.Core.List.{List, [], ◌∷◌, ◌++◌}
+use mathlib.Core.List.{List, [], ◌∷◌}
 use lib.Dec.{lit≤}
-use lib.ListN.{length, get_or, take, drop, drop_of_length-le}
+use lib.ListN.{length, get_or, take, drop_of_length-le}
 use lib.Seq.{length-take-le, split_at}
 use mir.Syntax.{w8}
 use mir.Val.{Fits}
@@ -16,7 +16,6 @@ use Rattle.octets.specs.Number.{octets_of, value_of}
 use Rattle.octets.specs.NumberLaws.{octets_value}
 use Rattle.fields.specs.Field.{value_at}
 use Rattle.fields.specs.FieldLaws.{value_there}
-use Rattle.layout.specs.Limits.{FailureOk}
 use Rattle.read_response.specs.Parts.{judged_of}
 use Rattle.read_response.specs.Refusals.{refusal_of}
 use Rattle.read_errors.specs.ErrorLaws.{error_octets, error_status, no_error}

@@ -2,7 +2,7 @@
 -- error_octets; error_form, error_status, no_error.
 -- What a response is judged to be is in crate read_response. Assumes nothing.
 use Rattle.std.specs.Prelude.{ℕ, zero, suc, ◌≤◌, ◌≡◌, refl, Bool, true, false, cond, List, [], ◌∷◌, ltb, length}
-use Rattle.std.proofs.Common.{arith, sym, ap, ◌∙◌}
+use Rattle.std.proofs.Common.{arith, ◌∙◌}
 use Rattle.octets.specs.Octets.{Octets}
 use Rattle.layout.specs.Reading.{failed, basic}
 use Rattle.layout.specs.Limits.{FailureOk}

@@ -8,7 +8,6 @@ use Rattle.layout.specs.Read.{reads}
 use Rattle.layout.proofs.Read.{reading}
 use Rattle.read_response.specs.Parts.{parts_in}
 use Rattle.read_response.specs.declared.Parts.{Parts}
-use Rattle.read_response.specs.declared.Judged.TheVariants as judged
 
 -- what is judged basic reads as a basic response, and its parts are where that has them
 pub record Reads (s : List ℕ) (t : Parts) : Type 0 where

@@ -2,7 +2,7 @@
 -- checked; card, question_at; failure, desk_case; unfit_status, unfit_placed; response, answered, m11_passes, m11_late, m11_tolerated; other_issuer, too_tolerant.
 -- Assumes nothing.
 use Rattle.std.specs.Prelude.{ℕ, ◌≡◌, refl, List, [], replicate}
-use Rattle.layout.specs.Reading.{good, failed, basic}
+use Rattle.layout.specs.Reading.{failed, basic}
 use Rattle.layout.specs.Read.{reads, unfit}
 use Rattle.layout.proofs.Read.{reading}
 use Rattle.layout.proofs.Opened.{opened}

@@ -15,7 +15,6 @@ use Rattle.freshness.specs.Fresh.{fresh_of}
 use Rattle.answer.specs.Card.{all_zero, field_ok}
 use Rattle.answer.specs.Verdict.{refused}
 use Rattle.answer.specs.declared.Card.{Card}
-use Rattle.answer.specs.declared.Place.TheVariants as place
 use Rattle.rule_matching.specs.Match.{matches}
 use Rattle.rules.specs.declared.Question.{Question}
 use Rattle.rules.specs.Question.{in_range}

@@ -5,7 +5,7 @@
 use Prim.Native.Nat.{ℕ, ◌-◌, ◌≤◌, ◌<◌}
 use native.Mathlib.Omega.{arith}
 use mathlib.Core.Path.{◌≡◌, refl, sym, ap, ◌∙◌}
-use mathlib.Core.List.{List, [], ◌∷◌}
+use mathlib.Core.List.{List, []}
 use lib.ListN.{length, take, drop, drop_of_length-le}
 use lib.Seq.{take-nil, take_all, length-take-le}
 use Rattle.octets.specs.LentLaws.{rest_is}

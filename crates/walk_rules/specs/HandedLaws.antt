@@ -7,9 +7,6 @@ use Prim.Native.Nat.{ℕ, suc}
 use Rattle.std.specs.Prelude.{◌≡◌}
 use mathlib.Core.List.{List, [], ◌∷◌}
 use Rattle.std.specs.Borrow.{Bor}
-use Rattle.layout.specs.Reading as reading
-use Rattle.read_response.specs.declared.Judged.TheVariants as judged
-use Rattle.show.specs.declared.Entry.TheVariants as entry
 use Rattle.walk_rules.specs.Walked.{say_of, hand_of, moved_of}
 use Rattle.walk_rules.specs.Handed.{at, given_by}
 

@@ -6,8 +6,6 @@ use Rattle.std.specs.Prelude.{ℕ, ◌≤◌, ◌<◌, ◌≡◌, List, length}
 use Rattle.layout.specs.Reading as reading
 use Rattle.layout.specs.Read.{reads}
 use Rattle.layout.proofs.Read.{reading}
-use Rattle.read_response.specs.declared.Judged.TheVariants as judged
-use Rattle.show.specs.declared.Entry.TheVariants as entry
 
 -- the response reads as a basic one, which has an entry with this ordinal
 pub record HasEntry (s : List ℕ) (k : ℕ) : Type 0 where

@@ -1,5 +1,4 @@
 -- `cache_file::file` meets its contract. Assumes nothing.
-use borrow.Author.Rules.{rules}
 use Rattle.cache_file.proofs.Cases.{file_19, left_19, file_1, left_1, file_17, left_17, cache_said, clock_said, slip_said_lem, cache_size, slip_size_lem}
 use Rattle.cache_file.proofs.file.Goals as goal
 

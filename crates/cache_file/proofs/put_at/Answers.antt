@@ -1,5 +1,4 @@
 -- `cache_file::put_at` meets its contract. Assumes nothing.
-use borrow.Author.Rules.{rules}
 use Rattle.cache_file.proofs.Cases.{place_written, put_count}
 use Rattle.cache_file.proofs.put_at.Goals as goal
 

@@ -1,5 +1,4 @@
 -- `cache_file::put_held` meets its contract. Assumes nothing.
-use borrow.Author.Rules.{rules}
 use Rattle.cache_file.proofs.Cases.{held_older, held_older_left, held_put, held_put_left}
 use Rattle.cache_file.proofs.put_held.Goals as goal
 

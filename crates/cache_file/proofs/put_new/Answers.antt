@@ -1,5 +1,4 @@
 -- `cache_file::put_new` meets its contract. Assumes nothing.
-use borrow.Author.Rules.{rules}
 use Rattle.cache_file.proofs.Cases.{new_full, new_full_left, new_put, new_put_left}
 use Rattle.cache_file.proofs.put_new.Goals as goal
 

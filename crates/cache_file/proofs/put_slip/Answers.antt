@@ -1,5 +1,4 @@
 -- `cache_file::put_slip` meets its contract. Assumes nothing.
-use borrow.Author.Rules.{rules}
 use Rattle.cache_file.proofs.Cases.{slip_held, slip_held_left, slip_new, slip_new_left}
 use Rattle.cache_file.proofs.put_slip.Goals as goal
 

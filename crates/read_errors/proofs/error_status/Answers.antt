@@ -1,5 +1,4 @@
 -- `read_errors::error_status` meets its contract, return by return. Assumes nothing.
-use borrow.Author.Rules.{rules}
 use Rattle.read_errors.proofs.Cases.{error_long, error_head, error_four, error_most, error_is}
 use Rattle.read_errors.proofs.error_status.Goals as goal
 

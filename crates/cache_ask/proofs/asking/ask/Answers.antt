@@ -1,5 +1,5 @@
 -- `cache_ask::asking::ask` meets its contract. Assumes nothing.
-use borrow.Author.Rules.{rules, length_unmapped}
+use borrow.Author.Rules.{length_unmapped}
 use Rattle.cache_ask.proofs.Cases.{asks}
 use Rattle.cache_ask.proofs.asking.ask.Goals as goal
 

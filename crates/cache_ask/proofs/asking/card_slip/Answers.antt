@@ -1,5 +1,5 @@
 -- `cache_ask::asking::card_slip` meets its contract. Assumes nothing.
-use borrow.Author.Rules.{rules, length_unmapped}
+use borrow.Author.Rules.{length_unmapped}
 use Rattle.cache_ask.proofs.Cases.{card_slip}
 use Rattle.cache_ask.proofs.asking.card_slip.Goals as goal
 

@@ -1,5 +1,4 @@
 -- `cache_ask::asking::tell_found` meets its contract. Assumes nothing.
-use borrow.Author.Rules.{rules}
 use Rattle.cache_ask.proofs.Cases.{tell_here, tell_none, tell_refused}
 use Rattle.cache_ask.proofs.asking.tell_found.Goals as goal
 

@@ -1,5 +1,4 @@
 -- `cache_ask::finding::card_fits` meets its contract. Assumes nothing.
-use borrow.Author.Rules.{rules}
 use Rattle.cache_ask.proofs.Cases.{card_short, card_long}
 use Rattle.cache_ask.proofs.finding.card_fits.Goals as goal
 

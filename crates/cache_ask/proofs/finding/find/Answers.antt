@@ -1,5 +1,4 @@
 -- `cache_ask::finding::find` meets its contract. Assumes nothing.
-use borrow.Author.Rules.{rules}
 use Rattle.cache_ask.proofs.Cases.{find_19, find_clock, find_card, find_there}
 use Rattle.cache_ask.proofs.finding.find.Goals as goal
 

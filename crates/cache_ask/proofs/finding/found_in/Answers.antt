@@ -1,5 +1,4 @@
 -- `cache_ask::finding::found_in` meets its contract. Assumes nothing.
-use borrow.Author.Rules.{rules}
 use Rattle.cache_ask.proofs.Cases.{found_none, found_here, found_missed}
 use Rattle.cache_ask.proofs.finding.found_in.Goals as goal
 

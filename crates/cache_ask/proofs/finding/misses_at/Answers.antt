@@ -1,5 +1,4 @@
 -- `cache_ask::finding::misses_at` meets its contract. Assumes nothing.
-use borrow.Author.Rules.{rules}
 use Rattle.cache_ask.proofs.Cases.{misses}
 use Rattle.cache_ask.proofs.finding.misses_at.Goals as goal
 

@@ -1,6 +1,5 @@
 -- `cache_line::answers::answer_ask` meets its contract. Assumes nothing.
 use Rattle.cache_line.proofs.AskCases.{slip_short, ask_here, ask_none, ask_refused}
-use borrow.Author.Rules.{rules}
 use Rattle.cache_line.proofs.answers.answer_ask.Goals as goal
 
 pub say_body-requires : goal.say_body-requires

@@ -1,6 +1,5 @@
 -- `cache_line::answers::answer_file` meets its contract. Assumes nothing.
 use Rattle.cache_line.proofs.Cases.{filed_line, filed_cache_lem}
-use borrow.Author.Rules.{rules}
 use Rattle.cache_line.proofs.answers.answer_file.Goals as goal
 
 pub returns : goal.returns

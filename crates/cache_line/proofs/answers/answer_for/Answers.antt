@@ -1,5 +1,4 @@
 -- `cache_line::answers::answer_for` meets its contract. Assumes nothing.
-use borrow.Author.Rules.{rules}
 use Rattle.cache_line.proofs.InputCases.{replied, line_put, cache_put}
 use Rattle.cache_line.proofs.answers.answer_for.Goals as goal
 

@@ -1,6 +1,5 @@
 -- `cache_line::answers::answer_list` meets its contract. Assumes nothing.
 use Rattle.cache_line.proofs.AskCases.{list_19, list_clock, list_paper, list_marks}
-use borrow.Author.Rules.{rules}
 use Rattle.cache_line.proofs.answers.answer_list.Goals as goal
 
 pub returns-then-not-room_fits : goal.returns-then-not-room_fits

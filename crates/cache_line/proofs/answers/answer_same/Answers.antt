@@ -1,6 +1,5 @@
 -- `cache_line::answers::answer_same` meets its contract. Assumes nothing.
 use Rattle.cache_line.proofs.AskCases.{same_ask, same_list, same_other}
-use borrow.Author.Rules.{rules}
 use Rattle.cache_line.proofs.answers.answer_same.Goals as goal
 
 pub returns-then-operation-eq2 : goal.returns-then-operation-eq2

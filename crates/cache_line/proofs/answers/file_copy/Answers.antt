@@ -1,6 +1,5 @@
 -- `cache_line::answers::file_copy` meets its contract. Assumes nothing.
 use Rattle.cache_line.proofs.Cases.{copy_other, copy_left, copy_filed, copy_holds}
-use borrow.Author.Rules.{rules}
 use Rattle.cache_line.proofs.answers.file_copy.Goals as goal
 
 pub returns-then-s-ne-CACHE : goal.returns-then-s-ne-CACHE

@@ -1,6 +1,5 @@
 -- `cache_line::answers::reply_for` meets its contract. Assumes nothing.
 use Rattle.cache_line.proofs.InputCases.{input_new, input_new_cache, input_short, input_short_cache, input_first, input_header, input_inside, input_line, input_cache}
-use borrow.Author.Rules.{rules}
 use Rattle.cache_line.proofs.answers.reply_for.Goals as goal
 
 pub returns-then-is_new : goal.returns-then-is_new

@@ -1,6 +1,5 @@
 -- `cache_line::answers::tell_filed` meets its contract. Assumes nothing.
 use Rattle.cache_line.proofs.Cases.{told_count, told_count_cache, told_refused, told_nothing}
-use borrow.Author.Rules.{rules}
 use Rattle.cache_line.proofs.answers.tell_filed.Goals as goal
 
 pub returns-in-Count : goal.returns-in-Count

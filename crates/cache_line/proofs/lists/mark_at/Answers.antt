@@ -1,6 +1,5 @@
 -- `cache_line::lists::mark_at` meets its contract. Assumes nothing.
 use Rattle.cache_line.proofs.Turns.{mark_empty, mark_early, mark_late, mark_counts}
-use borrow.Author.Rules.{rules}
 use Rattle.cache_line.proofs.lists.mark_at.Goals as goal
 
 pub returns-then-card-eq0 : goal.returns-then-card-eq0

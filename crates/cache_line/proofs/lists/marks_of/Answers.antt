@@ -1,7 +1,6 @@
 -- What is left to show of the loop.
 use Prim.Native.Nat.{◌-◌}
-use borrow.Author.Rules.{rules}
-use Rattle.cache_line.proofs.Turns.{Marked, marked_start, marked_next, marked_end}
+use Rattle.cache_line.proofs.Turns.{marked_start, marked_next, marked_end}
 use Rattle.cache_line.proofs.lists.marks_of.Goals as goal
 
 pub loop-i-init : goal.loop-i-init

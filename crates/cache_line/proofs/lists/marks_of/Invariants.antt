@@ -1,7 +1,6 @@
 -- `cache_line::lists::marks_of` meets its contract. Assumes nothing.
 use Prim.Native.Nat.{◌-◌}
-use borrow.Author.Rules.{rules}
-use Rattle.cache_line.proofs.Turns.{Marked, marked_start, marked_next, marked_end}
+use Rattle.cache_line.proofs.Turns.{Marked}
 use Rattle.cache_line.proofs.lists.marks_of.Given as goal
 
 abbrev pub invariant-loop-i : goal.invariant-loop-i

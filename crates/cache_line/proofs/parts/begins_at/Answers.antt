@@ -1,7 +1,6 @@
 -- `cache_line::parts::begins_at` meets its contract. Assumes nothing.
 use native.Mathlib.Omega.{arith}
 use Rattle.cache_line.proofs.PartCases.{begins_none, begins_early, begins_there}
-use borrow.Author.Rules.{rules}
 use Rattle.cache_line.proofs.parts.begins_at.Goals as goal
 
 pub returns-then-input-lt18 : goal.returns-then-input-lt18

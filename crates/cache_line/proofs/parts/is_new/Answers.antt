@@ -1,6 +1,5 @@
 -- `cache_line::parts::is_new` meets its contract. Assumes nothing.
 use Rattle.cache_line.proofs.PartCases.{new_long, new_tested}
-use borrow.Author.Rules.{rules}
 use Rattle.cache_line.proofs.parts.is_new.Goals as goal
 
 pub returns-then-input-ne1 : goal.returns-then-input-ne1

@@ -1,6 +1,5 @@
 -- `cache_line::says::hand` meets its contract. Assumes nothing.
 use Rattle.cache_line.proofs.SayCases.{hand_short, hand_room}
-use borrow.Author.Rules.{rules}
 use Rattle.cache_line.proofs.says.hand.Goals as goal
 
 pub returns-then-out-new : goal.returns-then-out-new

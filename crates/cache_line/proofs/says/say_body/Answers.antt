@@ -1,6 +1,5 @@
 -- `cache_line::says::say_body` meets its contract. Assumes nothing.
 use Rattle.cache_line.proofs.SayCases.{body_counted, body_said}
-use borrow.Author.Rules.{rules}
 use Rattle.cache_line.proofs.says.say_body.Goals as goal
 
 pub slice_bounds-hex_line-end : goal.slice_bounds-hex_line-end

@@ -1,6 +1,5 @@
 -- `cache_line::says::say_count` meets its contract. Assumes nothing.
 use Rattle.cache_line.proofs.SayCases.{count_said}
-use borrow.Author.Rules.{rules}
 use Rattle.cache_line.proofs.says.say_count.Goals as goal
 
 pub returns : goal.returns

@@ -1,6 +1,5 @@
 -- `cache_line::says::say_number` meets its contract. Assumes nothing.
 use Rattle.cache_line.proofs.SayCases.{number_said}
-use borrow.Author.Rules.{rules}
 use Rattle.cache_line.proofs.says.say_number.Goals as goal
 
 pub returns : goal.returns

@@ -1,5 +1,4 @@
 -- `cache_place::slips::card_at` meets its contract. Assumes nothing.
-use borrow.Author.Rules.{rules}
 use Rattle.cache_place.proofs.Cases.{card_none, card_empty, card_short, card_whole}
 use Rattle.cache_place.proofs.slips.card_at.Goals as goal
 

@@ -1,5 +1,4 @@
 -- `cache_place::slips::end_fits` meets its contract. Assumes nothing.
-use borrow.Author.Rules.{rules}
 use Rattle.cache_place.proofs.SlipCases.{end_late, end_absent, end_given}
 use Rattle.cache_place.proofs.slips.end_fits.Goals as goal
 

@@ -1,5 +1,4 @@
 -- `cache_place::slips::is_late` meets its contract. Assumes nothing.
-use borrow.Author.Rules.{rules}
 use Rattle.cache_place.proofs.Cases.{late_not, late_by}
 use Rattle.cache_place.proofs.slips.is_late.Goals as goal
 

@@ -1,5 +1,4 @@
 -- `cache_place::slips::next_at` meets its contract. Assumes nothing.
-use borrow.Author.Rules.{rules}
 use Rattle.cache_place.proofs.Cases.{next_is}
 use Rattle.cache_place.proofs.slips.next_at.Goals as goal
 

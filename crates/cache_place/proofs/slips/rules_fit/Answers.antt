@@ -1,5 +1,4 @@
 -- `cache_place::slips::rules_fit` meets its contract. Assumes nothing.
-use borrow.Author.Rules.{rules}
 use Rattle.cache_place.proofs.SlipCases.{rule_room, rule_serial, rule_times, rule_short, rule_end}
 use Rattle.cache_place.proofs.slips.rules_fit.Goals as goal
 

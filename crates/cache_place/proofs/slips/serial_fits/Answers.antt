@@ -1,6 +1,5 @@
 -- `cache_place::slips::serial_fits` meets its contract. Assumes nothing.
 use native.Mathlib.Omega.{arith}
-use borrow.Author.Rules.{rules}
 use Rattle.cache_place.proofs.slips.serial_fits.Goals as goal
 
 pub overflow_cast-t : goal.overflow_cast-t

@@ -1,5 +1,4 @@
 -- `cache_place::slips::slip_at` meets its contract. Assumes nothing.
-use borrow.Author.Rules.{rules}
 use Rattle.cache_place.proofs.Cases.{slip_none, slip_short, slip_counted, slip_whole}
 use Rattle.cache_place.proofs.slips.slip_at.Goals as goal
 

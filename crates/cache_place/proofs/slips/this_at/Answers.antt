@@ -1,5 +1,4 @@
 -- `cache_place::slips::this_at` meets its contract. Assumes nothing.
-use borrow.Author.Rules.{rules}
 use Rattle.cache_place.proofs.Cases.{this_is}
 use Rattle.cache_place.proofs.slips.this_at.Goals as goal
 

@@ -1,5 +1,4 @@
 -- `cache_place::spots::place_fits` meets its contract. Assumes nothing.
-use borrow.Author.Rules.{rules}
 use Rattle.cache_place.proofs.PlaceCases.{place_none, place_zero, end_inside, place_broken, place_tail}
 use Rattle.cache_place.proofs.spots.place_fits.Goals as goal
 

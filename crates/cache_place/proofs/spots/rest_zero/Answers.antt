@@ -1,5 +1,4 @@
 -- `cache_place::spots::rest_zero` meets its contract. Assumes nothing.
-use borrow.Author.Rules.{rules}
 use Rattle.cache_place.proofs.PlaceCases.{rest_none, rest_any, rest_other, rest_last}
 use Rattle.cache_place.proofs.spots.rest_zero.Goals as goal
 

@@ -1,5 +1,4 @@
 -- `cache_place::spots::zeros` meets its contract. Assumes nothing.
-use borrow.Author.Rules.{rules}
 use Rattle.cache_place.proofs.ZeroCases.{zeros_none, zeros_first, zeros_counted, zeros_same}
 use Rattle.cache_place.proofs.spots.zeros.Goals as goal
 

@@ -1,10 +1,8 @@
 -- What is left to show of the loop.
-use Prim.Native.Nat.{◌-◌, ◌≤◌}
+use Prim.Native.Nat.{◌-◌}
 use native.Mathlib.Numerals.{add-one}
 use borrow.Author.Rules.{rules}
-use Rattle.cache_places.specs.Evenly.{evenly}
-use Rattle.cache_places.specs.Marks.{Marked}
-use Rattle.cache_places.proofs.LoneCases.{Apart, apart_start, marks_start, apart_stop, apart_next, apart_end}
+use Rattle.cache_places.proofs.LoneCases.{apart_start, marks_start, apart_stop, apart_next, apart_end}
 use Rattle.cache_places.proofs.rooms.cards_differ.Goals as goal
 
 pub loop-i-init : goal.loop-i-init

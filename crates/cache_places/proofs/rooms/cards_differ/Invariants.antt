@@ -1,10 +1,8 @@
 -- `cache_places::rooms::cards_differ` meets its contract. Assumes nothing.
 use Prim.Native.Nat.{◌-◌, ◌≤◌}
-use native.Mathlib.Numerals.{add-one}
-use borrow.Author.Rules.{rules}
 use Rattle.cache_places.specs.Evenly.{evenly}
 use Rattle.cache_places.specs.Marks.{Marked}
-use Rattle.cache_places.proofs.LoneCases.{Apart, apart_start, marks_start, apart_stop, apart_next, apart_end}
+use Rattle.cache_places.proofs.LoneCases.{Apart}
 use Rattle.cache_places.proofs.rooms.cards_differ.Given as goal
 
 abbrev pub invariant-loop-i : goal.invariant-loop-i

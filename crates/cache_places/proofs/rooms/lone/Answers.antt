@@ -1,5 +1,4 @@
 -- `cache_places::rooms::lone` meets its contract. Assumes nothing.
-use borrow.Author.Rules.{rules}
 use Rattle.cache_places.proofs.LoneCases.{lone_empty, marks_empty, mark_inside, marks_next, lone_new, lone_met}
 use Rattle.cache_places.proofs.rooms.lone.Goals as goal
 

@@ -1,5 +1,4 @@
 -- `cache_places::rooms::mark_of` meets its contract. Assumes nothing.
-use borrow.Author.Rules.{rules}
 use Rattle.cache_places.proofs.Cases.{mark_is}
 use Rattle.cache_places.proofs.rooms.mark_of.Goals as goal
 

@@ -1,7 +1,6 @@
 -- What is left to show of the loop.
-use borrow.Author.Rules.{rules}
 use Prim.Native.Nat.{◌-◌}
-use Rattle.cache_places.proofs.Turns.{Fit, fit_start, fit_stop, fit_next, fit_end}
+use Rattle.cache_places.proofs.Turns.{fit_start, fit_stop, fit_next, fit_end}
 use Rattle.cache_places.proofs.rooms.places_fit.Goals as goal
 
 pub loop-i-init : goal.loop-i-init

@@ -1,7 +1,6 @@
 -- `cache_places::rooms::places_fit` meets its contract. Assumes nothing.
-use borrow.Author.Rules.{rules}
 use Prim.Native.Nat.{◌-◌}
-use Rattle.cache_places.proofs.Turns.{Fit, fit_start, fit_stop, fit_next, fit_end}
+use Rattle.cache_places.proofs.Turns.{Fit}
 use Rattle.cache_places.proofs.rooms.places_fit.Given as goal
 
 abbrev pub invariant-loop-i : goal.invariant-loop-i

@@ -1,5 +1,4 @@
 -- `cache_places::rooms::room_fits` meets its contract. Assumes nothing.
-use borrow.Author.Rules.{rules}
 use Rattle.cache_places.proofs.Cases.{room_length, room_broken, room_fit}
 use Rattle.cache_places.proofs.rooms.room_fits.Goals as goal
 

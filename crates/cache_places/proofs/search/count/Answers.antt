@@ -1,7 +1,6 @@
 -- What is left to show of the loop.
-use borrow.Author.Rules.{rules}
 use Prim.Native.Nat.{◌-◌}
-use Rattle.cache_places.proofs.Turns.{Counted, count_start, count_room, count_next, count_end}
+use Rattle.cache_places.proofs.Turns.{count_start, count_room, count_next, count_end}
 use Rattle.cache_places.proofs.search.count.Goals as goal
 
 pub loop-i-init : goal.loop-i-init

@@ -1,7 +1,6 @@
 -- `cache_places::search::count` meets its contract. Assumes nothing.
-use borrow.Author.Rules.{rules}
 use Prim.Native.Nat.{◌-◌}
-use Rattle.cache_places.proofs.Turns.{Counted, count_start, count_room, count_next, count_end}
+use Rattle.cache_places.proofs.Turns.{Counted}
 use Rattle.cache_places.proofs.search.count.Given as goal
 
 abbrev pub invariant-loop-i : goal.invariant-loop-i

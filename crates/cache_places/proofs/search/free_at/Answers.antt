@@ -1,7 +1,6 @@
 -- What is left to show of the loop.
-use borrow.Author.Rules.{rules}
 use Prim.Native.Nat.{◌-◌}
-use Rattle.cache_places.proofs.Turns.{Free, free_start, free_stop, free_next, free_end}
+use Rattle.cache_places.proofs.Turns.{free_start, free_stop, free_next, free_end}
 use Rattle.cache_places.proofs.search.free_at.Goals as goal
 
 pub loop-i-init : goal.loop-i-init

@@ -1,7 +1,6 @@
 -- `cache_places::search::free_at` meets its contract. Assumes nothing.
-use borrow.Author.Rules.{rules}
 use Prim.Native.Nat.{◌-◌}
-use Rattle.cache_places.proofs.Turns.{Free, free_start, free_stop, free_next, free_end}
+use Rattle.cache_places.proofs.Turns.{Free}
 use Rattle.cache_places.proofs.search.free_at.Given as goal
 
 abbrev pub invariant-loop-i : goal.invariant-loop-i

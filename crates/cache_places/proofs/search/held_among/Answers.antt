@@ -1,7 +1,6 @@
 -- What is left to show of the loop.
-use borrow.Author.Rules.{rules}
 use Prim.Native.Nat.{◌-◌}
-use Rattle.cache_places.proofs.Turns.{Held, held_start, held_stop, held_next, held_end}
+use Rattle.cache_places.proofs.Turns.{held_start, held_stop, held_next, held_end}
 use Rattle.cache_places.proofs.search.held_among.Goals as goal
 
 pub loop-i-init : goal.loop-i-init

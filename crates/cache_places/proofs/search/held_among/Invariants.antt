@@ -1,7 +1,6 @@
 -- `cache_places::search::held_among` meets its contract. Assumes nothing.
-use borrow.Author.Rules.{rules}
 use Prim.Native.Nat.{◌-◌}
-use Rattle.cache_places.proofs.Turns.{Held, held_start, held_stop, held_next, held_end}
+use Rattle.cache_places.proofs.Turns.{Held}
 use Rattle.cache_places.proofs.search.held_among.Given as goal
 
 abbrev pub invariant-loop-i : goal.invariant-loop-i

@@ -1,5 +1,4 @@
 -- `cache_places::search::held_at` meets its contract. Assumes nothing.
-use borrow.Author.Rules.{rules}
 use Rattle.cache_places.proofs.Cases.{held_whole}
 use Rattle.cache_places.proofs.search.held_at.Goals as goal
 

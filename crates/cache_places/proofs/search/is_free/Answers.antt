@@ -1,5 +1,4 @@
 -- `cache_places::search::is_free` meets its contract. Assumes nothing.
-use borrow.Author.Rules.{rules}
 use Rattle.cache_places.proofs.Cases.{free_empty, free_late}
 use Rattle.cache_places.proofs.search.is_free.Goals as goal
 

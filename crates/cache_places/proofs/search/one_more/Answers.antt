@@ -1,5 +1,4 @@
 -- `cache_places::search::one_more` meets its contract. Assumes nothing.
-use borrow.Author.Rules.{rules}
 use Rattle.cache_places.proofs.Cases.{more_empty, more_filled}
 use Rattle.cache_places.proofs.search.one_more.Goals as goal
 

@@ -1,5 +1,4 @@
 -- `cache_places::search::place_at` meets its contract. Assumes nothing.
-use borrow.Author.Rules.{rules}
 use Rattle.cache_places.proofs.Cases.{place_none, place_inside, place_start, place_end, place_there}
 use Rattle.cache_places.proofs.search.place_at.Goals as goal
 

@@ -1,7 +1,6 @@
 -- `desk_intake::keeping::keep` meets its contract. The mathematics of each return is in Cases.
 -- Assumes nothing.
 use native.Mathlib.Omega.{arith}
-use borrow.Author.Rules.{rules}
 use Rattle.desk_intake.proofs.Cases.{part_counted, keeps_past, keeps_part, keeps_whole}
 use Rattle.desk_intake.proofs.keeping.keep.Goals as goal
 

@@ -1,6 +1,5 @@
 -- `read_response::basics::basic_body` meets its contract, by the signed part and what follows it.
 -- Assumes nothing.
-use borrow.Author.Rules.{rules}
 use Rattle.read_response.proofs.BasicCases.{head_place, head_end, end_fits, head_sum, start_sum}
 use Rattle.read_response.proofs.BasicCases.{basic_wrong, inside_place, inside_wrong, first_sum, front_fits, after_end, after_fits, body_found}
 use Rattle.read_response.proofs.basics.basic_body.Goals as goal

@@ -1,6 +1,5 @@
 -- `read_response::basics::judge_basic` meets its contract, by the header and the content.
 -- Assumes nothing.
-use borrow.Author.Rules.{rules}
 use Rattle.read_response.proofs.BasicCases.{head_place, head_end, head_sum, start_sum}
 use Rattle.read_response.proofs.JudgeCases.{string_wrong, end_sum, body_small, body_wrong, body_fills, body_left}
 use Rattle.read_response.proofs.basics.judge_basic.Goals as goal

@@ -1,6 +1,5 @@
 -- `read_response::refusals::refusal_of` meets its contract, case by case.
 -- Assumes nothing.
-use borrow.Author.Rules.{rules}
 use Rattle.read_response.specs.Refusals.{refusal_of}
 use Rattle.read_response.proofs.RefusalCases.{refusal_as}
 use Rattle.read_response.proofs.refusals.refusal_of.Goals as goal

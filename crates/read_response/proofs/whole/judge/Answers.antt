@@ -1,6 +1,5 @@
 -- `read_response::whole::judge` meets its contract, by the size, the envelope and the basic response.
 -- Assumes nothing.
-use borrow.Author.Rules.{rules}
 use Rattle.read_response.proofs.JudgeCases.{too_long, envelope_wrong, envelope_failed, string_inside, type_other, type_basic}
 use Rattle.read_response.proofs.whole.judge.Goals as goal
 

@@ -1,5 +1,4 @@
 -- `request::parts::put_front` meets its contract: the headers and what follows them are one write. Assumes nothing.
-use borrow.Author.Rules.{rules}
 use Rattle.request.proofs.WriteCases.{front_in}
 use Rattle.request.proofs.parts.put_front.Goals as goal
 

@@ -1,5 +1,4 @@
 -- `request::parts::put_hashes` meets its contract: three writes in a row are one. Assumes nothing.
-use borrow.Author.Rules.{rules}
 use Rattle.request.proofs.WriteCases.{hashes_in}
 use Rattle.request.proofs.parts.put_hashes.Goals as goal
 

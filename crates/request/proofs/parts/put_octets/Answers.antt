@@ -1,5 +1,4 @@
 -- `request::parts::put_octets` meets its contract: few octets are one write, and more are two that overlap. Assumes nothing.
-use borrow.Author.Rules.{rules}
 use Rattle.request.proofs.WriteCases.{first_taken, over_in}
 use Rattle.request.proofs.parts.put_octets.Goals as goal
 

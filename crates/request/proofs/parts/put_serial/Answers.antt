@@ -1,5 +1,4 @@
 -- `request::parts::put_serial` meets its contract: a header and its content are one write. Assumes nothing.
-use borrow.Author.Rules.{rules}
 use Rattle.request.proofs.WriteCases.{serial_in_lem}
 use Rattle.request.proofs.parts.put_serial.Goals as goal
 

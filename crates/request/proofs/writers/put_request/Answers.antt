@@ -1,5 +1,4 @@
 -- `request::writers::put_request` meets its contract: the parts in a row are one write. Assumes nothing.
-use borrow.Author.Rules.{rules}
 use Rattle.request.proofs.WriteCases.{request_in_lem}
 use Rattle.request.proofs.writers.put_request.Goals as goal
 

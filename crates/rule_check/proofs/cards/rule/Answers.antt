@@ -1,5 +1,4 @@
 -- `rule_check::cards::rule` meets its contract: the response as a whole, then the card. Assumes nothing.
-use borrow.Author.Rules.{rules}
 use Rattle.rule_check.proofs.CheckCases.{rule_refused, rule_end, rule_sum, rule_clear}
 use Rattle.rule_check.proofs.cards.rule.Goals as goal
 

@@ -1,6 +1,5 @@
 -- `rule_check::cards::rule_card` meets its contract, by what the search finds.
 -- Assumes nothing.
-use borrow.Author.Rules.{rules}
 use Rattle.rule_check.proofs.CardCases.{card_none, card_two, card_end, card_sum, card_one}
 use Rattle.rule_check.proofs.cards.rule_card.Goals as goal
 

@@ -1,6 +1,5 @@
 -- `rule_check::entries::reason_for` meets its contract.
 -- Assumes nothing.
-use borrow.Author.Rules.{rules}
 use Rattle.rule_check.proofs.EntryCases.{reason_given, reason_absent}
 use Rattle.rule_check.proofs.entries.reason_for.Goals as goal
 

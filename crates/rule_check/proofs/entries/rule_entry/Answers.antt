@@ -1,7 +1,6 @@
 -- `rule_check::entries::rule_entry` meets its contract, by the values of the entry.
 -- Assumes nothing.
 use Rattle.rule_check.proofs.EntryCases.{seen_end, seen_is}
-use borrow.Author.Rules.{rules}
 use Rattle.rule_check.proofs.entries.rule_entry.Goals as goal
 
 pub rule_view-requires : goal.rule_view-requires

@@ -1,6 +1,5 @@
 -- `rule_check::entries::rule_fresh` meets its contract, rule by rule.
 -- Assumes nothing.
-use borrow.Author.Rules.{rules}
 use Rattle.rule_check.proofs.EntryCases.{fresh_endless, fresh_reversed, fresh_early, fresh_late, fresh_accepted}
 use Rattle.rule_check.proofs.entries.rule_fresh.Goals as goal
 

@@ -1,6 +1,5 @@
 -- `rule_check::entries::rule_until` meets its contract, with a nextUpdate and without.
 -- Assumes nothing.
-use borrow.Author.Rules.{rules}
 use Rattle.rule_check.proofs.EntryCases.{until_absent, until_at}
 use Rattle.rule_check.proofs.entries.rule_until.Goals as goal
 

@@ -1,6 +1,5 @@
 -- `rule_check::entries::rule_view` meets its contract: the extensions, then the times.
 -- Assumes nothing.
-use borrow.Author.Rules.{rules}
 use Rattle.rule_check.proofs.EntryCases.{view_sum, view_strange, view_clear}
 use Rattle.rule_check.proofs.entries.rule_view.Goals as goal
 

@@ -1,6 +1,5 @@
 -- `rule_check::entries::verdict_for` meets its contract, status by status.
 -- Assumes nothing.
-use borrow.Author.Rules.{rules}
 use Rattle.rule_check.proofs.EntryCases.{verdict_good, verdict_unknown, verdict_revoked}
 use Rattle.rule_check.proofs.entries.verdict_for.Goals as goal
 

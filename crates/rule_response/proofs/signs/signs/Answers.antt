@@ -1,6 +1,5 @@
 -- `rule_response::signs::signs` meets its contract, by the A1 of a Name or the hash of a key.
 -- Assumes nothing.
-use borrow.Author.Rules.{rules}
 use Rattle.rule_response.proofs.SignCases.{by_key, name_end, name_sum, by_name}
 use Rattle.rule_response.proofs.signs.signs.Goals as goal
 

@@ -1,6 +1,5 @@
 -- `rule_response::signs::signs_by_key` meets its contract: too short, or compared.
 -- Assumes nothing.
-use borrow.Author.Rules.{rules}
 use Rattle.rule_response.proofs.SignCases.{key_short, key_compared}
 use Rattle.rule_response.proofs.signs.signs_by_key.Goals as goal
 

@@ -1,6 +1,5 @@
 -- `rule_response::whole::open` meets its contract, by what the response is.
 -- Assumes nothing.
-use borrow.Author.Rules.{rules}
 use Rattle.rule_response.proofs.OpenCases.{open_long, open_unfit, open_failed, open_other, open_basic, responder_inside, extensions_inside}
 use Rattle.rule_response.proofs.whole.open.Goals as goal
 

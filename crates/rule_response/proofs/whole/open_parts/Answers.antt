@@ -1,6 +1,5 @@
 -- `rule_response::whole::open_parts` meets its contract: refused, or not.
 -- Assumes nothing.
-use borrow.Author.Rules.{rules}
 use Rattle.rule_response.proofs.OpenCases.{parts_refused, parts_clear}
 use Rattle.rule_response.proofs.whole.open_parts.Goals as goal
 

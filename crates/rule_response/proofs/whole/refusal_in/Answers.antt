@@ -1,6 +1,5 @@
 -- `rule_response::whole::refusal_in` meets its contract, from 6 to 9 in order.
 -- Assumes nothing.
-use borrow.Author.Rules.{rules}
 use Rattle.rule_response.proofs.OpenCases.{verdict_other, signer_other, marks_missing, extension_strange, response_clear}
 use Rattle.rule_response.proofs.whole.refusal_in.Goals as goal
 

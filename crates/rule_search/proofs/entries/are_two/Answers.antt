@@ -1,6 +1,5 @@
 -- `rule_search::entries::are_two` meets its contract.
 -- Assumes nothing.
-use borrow.Author.Rules.{rules}
 use Rattle.rule_search.proofs.FoundCases.{none_two, one_two, two_two}
 use Rattle.rule_search.proofs.entries.are_two.Goals as goal
 

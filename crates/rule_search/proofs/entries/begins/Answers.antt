@@ -1,5 +1,4 @@
 -- `rule_search::entries::begins` meets its contract, by where the CertID is. Assumes nothing.
-use borrow.Author.Rules.{rules}
 use Rattle.rule_search.proofs.HereCases.{begins_none, begins_sum, begins_end, begins_is}
 use Rattle.rule_search.proofs.entries.begins.Goals as goal
 

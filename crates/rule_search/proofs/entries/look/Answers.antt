@@ -1,5 +1,4 @@
 -- `rule_search::entries::look` meets its contract, by where the content of the entry is. Assumes nothing.
-use borrow.Author.Rules.{rules}
 use Rattle.rule_search.proofs.HereCases.{begins_sum, begins_end, look_other, look_next}
 use Rattle.rule_search.proofs.entries.look.Goals as goal
 

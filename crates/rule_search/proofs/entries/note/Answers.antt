@@ -1,6 +1,5 @@
 -- `rule_search::entries::note` meets its contract, by what was found so far.
 -- Assumes nothing.
-use borrow.Author.Rules.{rules}
 use Rattle.rule_search.proofs.FoundCases.{noted_first, noted_second, passed_none, passed_one, noted_two}
 use Rattle.rule_search.proofs.entries.note.Goals as goal
 

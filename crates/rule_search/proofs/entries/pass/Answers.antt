@@ -1,5 +1,4 @@
 -- `rule_search::entries::pass` meets its contract, by the header. Assumes nothing.
-use borrow.Author.Rules.{rules}
 use Rattle.rule_search.proofs.HereCases.{pass_sum, pass_end, pass_next}
 use Rattle.rule_search.proofs.entries.pass.Goals as goal
 

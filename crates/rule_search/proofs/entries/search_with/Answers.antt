@@ -1,9 +1,6 @@
 -- What is left to show of the loop.
-use borrow.Author.Rules.{rules}
 use Prim.Native.Nat.{◌-◌}
-use lib.ListN.{length}
-use Rattle.rule_search.specs.Search.{card_with}
-use Rattle.rule_search.proofs.SearchTurns.{Going, turn_start, turn_end, turn_count, turn_refused, turn_sum, turn_less, turn_two, turn_next}
+use Rattle.rule_search.proofs.SearchTurns.{turn_start, turn_end, turn_count, turn_refused, turn_sum, turn_less, turn_two, turn_next}
 use Rattle.rule_search.proofs.entries.search_with.Goals as goal
 
 pub entries-init : goal.entries-init

@@ -1,10 +1,9 @@
 -- `rule_search::entries::search_with` meets its contract. The loop is at a place up to which the entries are looked at.
 -- Assumes nothing.
-use borrow.Author.Rules.{rules}
 use Prim.Native.Nat.{◌-◌}
 use lib.ListN.{length}
 use Rattle.rule_search.specs.Search.{card_with}
-use Rattle.rule_search.proofs.SearchTurns.{Going, turn_start, turn_end, turn_count, turn_refused, turn_sum, turn_less, turn_two, turn_next}
+use Rattle.rule_search.proofs.SearchTurns.{Going}
 use Rattle.rule_search.proofs.entries.search_with.Given as goal
 
 abbrev pub invariant-entries : goal.invariant-entries

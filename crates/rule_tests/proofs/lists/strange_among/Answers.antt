@@ -1,7 +1,6 @@
 -- `rule_tests::lists::strange_among` meets its contract.
 -- Assumes nothing.
 use Rattle.rule_tests.proofs.PlaceCases.{place_none, place_some}
-use borrow.Author.Rules.{rules}
 use Rattle.rule_tests.proofs.lists.strange_among.Goals as goal
 
 pub returns-in-None : goal.returns-in-None

@@ -1,7 +1,6 @@
 -- `rule_tests::lists::strange_in_entry` meets its contract.
 -- Assumes nothing.
 use Rattle.rule_tests.proofs.PlaceCases.{nothing_there}
-use borrow.Author.Rules.{rules}
 use Rattle.rule_tests.proofs.lists.strange_in_entry.Goals as goal
 
 pub returns-then-part-eq0 : goal.returns-then-part-eq0

@@ -1,6 +1,5 @@
 -- `rule_tests::questions::question_fits` meets its contract, range by range.
 -- Assumes nothing.
-use borrow.Author.Rules.{rules}
 use native.Mathlib.Omega.{arith}
 use Rattle.rule_tests.proofs.RangeCases.{now_out, tolerance_out, verdict_out, role_under, role_over, marks_out, name_out, all_in}
 use Rattle.rule_tests.proofs.questions.question_fits.Goals as goal

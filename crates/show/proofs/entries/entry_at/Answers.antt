@@ -1,6 +1,5 @@
 -- `show::entries::entry_at` meets its contract, by what the response was judged to be.
 -- Assumes nothing.
-use borrow.Author.Rules.{rules}
 use Rattle.show.proofs.EntryCases.{entry_end, entries_sum, entries_end, entries_small, entry_found, entry_none}
 use Rattle.show.proofs.entries.entry_at.Goals as goal
 

@@ -1,6 +1,5 @@
 -- `show::entries::spot_after` meets its contract, by the steps before it.
 -- Assumes nothing.
-use borrow.Author.Rules.{rules}
 use Rattle.show.proofs.EntryCases.{after_inside, after_sum, after_found}
 use Rattle.show.proofs.entries.spot_after.Goals as goal
 

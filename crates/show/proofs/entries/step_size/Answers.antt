@@ -1,6 +1,5 @@
 -- `show::entries::step_size` meets its contract, by the header.
 -- Assumes nothing.
-use borrow.Author.Rules.{rules}
 use Rattle.show.specs.Steps.{step_size}
 use Rattle.show.proofs.EntryCases.{header_sum}
 use Rattle.show.proofs.entries.step_size.Goals as goal

@@ -2,12 +2,9 @@
 -- that they end where all of them do.
 -- Assumes nothing.
 use Prim.Native.Nat.{◌+◌, ◌≤◌}
-use native.Mathlib.Omega.{arith}
 use mathlib.Core.Path.{◌≡◌}
 use lib.ListN.{length, drop}
-use borrow.Author.Rules.{rules}
 use Rattle.show.specs.Steps.{steps_size}
-use Rattle.show.proofs.EntryCases.{steps_end, step_within, step_sum, step_next}
 use Rattle.show.proofs.entries.steps_size.Given as goal
 
 abbrev pub invariant-loop-left : goal.invariant-loop-left

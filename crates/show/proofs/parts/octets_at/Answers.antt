@@ -1,5 +1,4 @@
 -- `show::parts::octets_at` meets its contract, by where the place is. Assumes nothing.
-use borrow.Author.Rules.{rules}
 use Rattle.show.proofs.ShownCases.{counted, span_beyond, span_short, span_whole}
 use Rattle.show.proofs.parts.octets_at.Goals as goal
 

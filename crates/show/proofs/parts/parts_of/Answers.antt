@@ -1,5 +1,4 @@
 -- `show::parts::parts_of` meets its contract. Assumes nothing.
-use borrow.Author.Rules.{rules}
 use Rattle.show.specs.Parts.{shown_parts}
 use Rattle.show.proofs.ShownCases.{parts_none}
 use Rattle.show.proofs.parts.parts_of.Goals as goal

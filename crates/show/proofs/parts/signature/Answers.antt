@@ -1,5 +1,4 @@
 -- `show::parts::signature` meets its contract. Assumes nothing.
-use borrow.Author.Rules.{rules}
 use Rattle.show.proofs.PartsLaws.{signature_octets}
 use Rattle.show.proofs.parts.signature.Goals as goal
 

@@ -1,5 +1,4 @@
 -- `show::parts::signed_part` meets its contract. Assumes nothing.
-use borrow.Author.Rules.{rules}
 use Rattle.show.proofs.PartsLaws.{signed_octets}
 use Rattle.show.proofs.parts.signed_part.Goals as goal
 
