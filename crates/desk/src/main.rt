@@ -17,7 +17,7 @@ ghost use Rattle.desk.specs.Input.{Says};
 
 use desk_intake::Input;
 use std::io;
-use std::io::{Eprint, Read, Write};
+use std::io::{Eprint, Read};
 
 // Tells on standard error that a read failed, and in the system's words how. Where that cannot be
 // written, nobody is left to be told.
@@ -74,17 +74,17 @@ fn input_line(space: &[u8], input: Input, line: &mut [u8]) -> usize
 }
 
 // Writes the line to standard output.
-fn say_input<W: Write>(writer: &mut W, space: &[u8], input: Input) -> io::Result<()>
+fn say_input(rt: &impl Print, space: &[u8], input: Input) -> io::Result<()>
     requires room_least_in_bounds { room_least ≤ length space.now }
     requires was_read { WasRead space.now input }
 {
     let mut line = [0u8; 175];
     let n = input_line(space, input, &mut line);
-    writer.write_all(&line[..n])
+    rt.write_all(&line[..n])
 }
 
 fn main(rt: HostRuntime) -> io::Result<()> {
     let mut space = [0u8; desk_intake::ROOM];
     let input = read_all(&rt, &mut rt.stdin(), &mut space);
-    say_input(&mut rt.stdout(), &space, input)
+    say_input(&rt, &space, input)
 }

@@ -97,7 +97,11 @@ fn main(rt: HostRuntime) -> io::Result<()> {
     say_length(&rt, "M7 length 127 is ", 127)?;
     say_length(&rt, "M7 length 128 is ", 128)?;
     say_length(&rt, "M7 length 256 is ", 256)?;
-    say_header(&rt, "M8 30 81 05 .. is ", b"\x30\x81\x05\x01\x02\x03\x04\x05")?;
+    say_header(
+        &rt,
+        "M8 30 81 05 .. is ",
+        b"\x30\x81\x05\x01\x02\x03\x04\x05",
+    )?;
     say_serial(&rt, "M9 serial 00 80 is ", b"\x00\x80")?;
     say_serial(&rt, "M9 serial 00 7F is ", b"\x00\x7f")
 }

@@ -23,7 +23,7 @@ ghost use Rattle.room.specs.Answers.{Answers, Inside};
 use cache_line::{CACHE, LINE, ROOM, Reply};
 use desk_intake::Input;
 use std::io;
-use std::io::{Eprint, Read, Write};
+use std::io::{Eprint, Read};
 
 // Tells on standard error that a read failed, and in the system's words how. Where that cannot be
 // written, nobody is left to be told.
@@ -83,7 +83,7 @@ fn answer_input(space: &[u8], input: Input, line: &mut [u8], cache: &mut [u8]) -
 }
 
 // Writes the line and the cache behind it to standard output.
-fn say_input<W: Write>(writer: &mut W, space: &[u8], input: Input) -> io::Result<()>
+fn say_input(rt: &impl Print, space: &[u8], input: Input) -> io::Result<()>
     requires cache_room_least_in_bounds { cache_room_least ≤ length space.now }
     requires was_read { WasRead space.now input }
 {
@@ -92,12 +92,12 @@ fn say_input<W: Write>(writer: &mut W, space: &[u8], input: Input) -> io::Result
     let reply = answer_input(space, input, &mut line, &mut cache);
     let said = reply.line;
     let handed = reply.cache;
-    writer.write_all(&line[..said])?;
-    writer.write_all(&cache[..handed])
+    rt.write_all(&line[..said])?;
+    rt.write_all(&cache[..handed])
 }
 
 fn main(rt: HostRuntime) -> io::Result<()> {
     let mut space = [0u8; ROOM];
     let input = read_all(&rt, &mut rt.stdin(), &mut space);
-    say_input(&mut rt.stdout(), &space, input)
+    say_input(&rt, &space, input)
 }
