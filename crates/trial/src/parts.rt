@@ -52,15 +52,9 @@ pub(crate) fn say_responder(rt: &impl Print, s: &[u8]) -> io::Result<()> {
 // A walk over the entries of a response, from its start: so many steps, and then the step that is told.
 // There are at most 64 entries, and the end stays, so after 64 steps every step is the same.
 fn step_after(response: &[u8], count: usize) -> Stepped {
-    let mut left = count;
-    if 64 < count {
-        left = 64;
-    }
     let mut place = 0;
-    while 0 < left {
-        let step = walk::step_from(response, place);
-        place = step.place;
-        left -= 1;
+    for _ in 0..count.min(64) {
+        place = walk::step_from(response, place).place;
     }
     walk::step_from(response, place)
 }
