@@ -16,39 +16,42 @@ ghost use Rattle.desk_intake.specs.Read.{Onward, WasRead};
 ghost use Rattle.desk.specs.Input.{Says};
 
 use desk_intake::Input;
-use libc::{STDIN_FILENO, STDOUT_FILENO};
+use std::io;
+use std::io::{Eprint, Read};
 
-// Reads once more, and keeps what came after the octets that are kept.
-fn read_more(space: &mut [u8], done: usize) -> Input
-    ensures { Onward space.old done space.new result }
-{
-    let mut chunk = io::buffer();
-    let got = libc::read(STDIN_FILENO, &mut chunk);
-    if got < 0 {
-        return Input::Failed;
-    }
-    let n = io::count(got, &chunk);
-    if n == 0 {
-        return Input::End(done);
-    }
-    let next = desk_intake::keep(space, done, &chunk[..n]);
-    Input::More(next)
+// Tells on standard error that a read failed, and in the system's words how. Where that cannot be
+// written, nobody is left to be told.
+fn tell_failure(rt: &impl Eprint, error: io::Error) {
+    let _ = eprintln!(rt; "desk: standard input: {error}");
 }
 
-// Reads to the end. A proved loop has to end, so it counts its turns down from a number that no run
-// uses up.
-fn read_all(space: &mut [u8]) -> Input
+// Reads once more, and keeps what came after the octets that are kept.
+fn read_more<R: Read>(rt: &impl Eprint, reader: &mut R, space: &mut [u8], done: usize) -> Input
+    ensures { Onward space.old done space.new result }
+{
+    let mut chunk = [0u8; 4096];
+    match reader.read(&mut chunk) {
+        Ok(0) => Input::End(done),
+        Ok(n) => {
+            let next = desk_intake::keep(space, done, &chunk[..n]);
+            Input::More(next)
+        }
+        Err(error) => {
+            tell_failure(rt, error);
+            Input::Failed
+        }
+    }
+}
+
+// Reads to the end. A proved loop has to end, so it counts its turns, up to a number that no run
+// reaches.
+fn read_all<R: Read>(rt: &impl Eprint, reader: &mut R, space: &mut [u8]) -> Input
     ensures { WasRead space.new result }
 {
     let mut done = 0;
-    let mut turns = u64::MAX;
-    while 0 < turns {
-        turns -= 1;
-        let input = read_more(space, done);
-        match input {
-            Input::More(next) => {
-                done = next;
-            }
+    for _ in 0..u64::MAX {
+        match read_more(rt, reader, space, done) {
+            Input::More(next) => done = next,
             Input::End(n) => return Input::End(n),
             Input::Failed => return Input::Failed,
         }
@@ -70,28 +73,18 @@ fn input_line(space: &[u8], input: Input, line: &mut [u8]) -> usize
     }
 }
 
-// Tells where reading failed.
-fn tell_failure(input: Input) {
-    match input {
-        Input::More(_) => (),
-        Input::End(_) => (),
-        Input::Failed => os::fail(b"desk: standard input"),
-    }
-}
-
 // Writes the line to standard output.
-fn say_input(space: &[u8], input: Input)
+fn say_input(rt: &impl Print, space: &[u8], input: Input) -> io::Result<()>
     requires room_least_in_bounds { room_least ≤ length space.now }
     requires was_read { WasRead space.now input }
 {
-    tell_failure(input);
     let mut line = [0u8; 175];
     let n = input_line(space, input, &mut line);
-    io::write_all(STDOUT_FILENO, &line[..n]);
+    rt.write_all(&line[..n])
 }
 
-fn main() {
+fn main(rt: HostRuntime) -> io::Result<()> {
     let mut space = [0u8; desk_intake::ROOM];
-    let input = read_all(&mut space);
-    say_input(&space, input);
+    let input = read_all(&rt, &mut rt.stdin(), &mut space);
+    say_input(&rt, &space, input)
 }

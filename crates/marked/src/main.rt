@@ -2,98 +2,106 @@
 // it must write is in the file stdout.
 #![tactic(auto)]
 
-use libc::STDOUT_FILENO;
+use std::io;
 
-fn say(text: &[u8]) {
-    io::write_all(STDOUT_FILENO, text);
+fn say(rt: &impl Print, text: &str) -> io::Result<()> {
+    print!(rt; "{text}")
 }
 
-fn say_octet(x: u8) {
-    io::print_hex(STDOUT_FILENO, x as u64, 2);
+fn say_octet(rt: &impl Print, x: u8) -> io::Result<()> {
+    print!(rt; "{x:02x}")
+}
+
+fn say_number(rt: &impl Print, n: u64) -> io::Result<()> {
+    print!(rt; "{n}")
 }
 
 // The seconds of a time, or that it is none.
-fn say_time(name: &[u8], text: &[u8]) {
-    say(name);
+fn say_time(rt: &impl Print, name: &str, text: &[u8]) -> io::Result<()> {
+    say(rt, name)?;
     let t = calendar::read_time(text);
     match t {
         calendar::Time::At(n) => {
-            io::print_decimal(STDOUT_FILENO, n);
+            say_number(rt, n)?;
         }
-        calendar::Time::No => say(b"no time"),
+        calendar::Time::No => say(rt, "no time")?,
     }
-    say(b"\n");
+    say(rt, "\n")
 }
 
 // The octets of a length, as a header of tag 30 hex has them.
-fn say_length(name: &[u8], len: usize) {
-    say(name);
+fn say_length(rt: &impl Print, name: &str, len: usize) -> io::Result<()> {
+    say(rt, name)?;
     let mut out = [0u8; 4];
     let w = element::put_header(&mut out, 0, 0x30, len);
     match w {
         element::Formed::Next(end) => {
-            say_octet(out[1]);
+            say_octet(rt, out[1])?;
             if 2 < end {
-                say_octet(out[2]);
+                say_octet(rt, out[2])?;
             }
             if 3 < end {
-                say_octet(out[3]);
+                say_octet(rt, out[3])?;
             }
         }
-        element::Formed::Short => say(b"no room"),
-        element::Formed::NoTag => say(b"no tag"),
+        element::Formed::Short => say(rt, "no room")?,
+        element::Formed::NoTag => say(rt, "no tag")?,
     }
-    say(b"\n");
+    say(rt, "\n")
 }
 
 // What the header of a part says.
-fn say_header(name: &[u8], part: &[u8]) {
-    say(name);
+fn say_header(rt: &impl Print, name: &str, part: &[u8]) -> io::Result<()> {
+    say(rt, name)?;
     let h = element::read_header(part);
     match h {
         element::Header::Found { tag, start, len } => {
-            say_octet(tag);
-            say(b" content at ");
-            io::print_decimal(STDOUT_FILENO, start as u64);
-            say(b", size ");
-            io::print_decimal(STDOUT_FILENO, len as u64);
+            say_octet(rt, tag)?;
+            say(rt, " content at ")?;
+            say_number(rt, start as u64)?;
+            say(rt, ", size ")?;
+            say_number(rt, len as u64)?;
         }
         element::Header::Refused(p) => {
-            say(b"refused at ");
-            io::print_decimal(STDOUT_FILENO, p as u64);
+            say(rt, "refused at ")?;
+            say_number(rt, p as u64)?;
         }
     }
-    say(b"\n");
+    say(rt, "\n")
 }
 
 // The number of a serial, or that it is refused.
-fn say_serial(name: &[u8], serial: &[u8]) {
-    say(name);
+fn say_serial(rt: &impl Print, name: &str, serial: &[u8]) -> io::Result<()> {
+    say(rt, name)?;
     if content::serial_fits(serial) {
         let n = octets::number_at(serial, 0, serial.len());
         match n {
             octets::Number::Is(v) => {
-                io::print_decimal(STDOUT_FILENO, v);
+                say_number(rt, v)?;
             }
-            octets::Number::Outside => say(b"more than eight octets"),
+            octets::Number::Outside => say(rt, "more than eight octets")?,
         }
     } else {
-        say(b"refused");
+        say(rt, "refused")?;
     }
-    say(b"\n");
+    say(rt, "\n")
 }
 
-fn main() {
-    say_time(b"M1 20050501010000Z is ", b"20050501010000Z");
-    say_time(b"M2 20051107235244Z is ", b"20051107235244Z");
-    say_time(b"M3 20000229000000Z is ", b"20000229000000Z");
-    say_time(b"M4 21000229000000Z is ", b"21000229000000Z");
-    say_time(b"M5 99991231235959Z is ", b"99991231235959Z");
-    say_time(b"M6 20050501010060Z is ", b"20050501010060Z");
-    say_length(b"M7 length 127 is ", 127);
-    say_length(b"M7 length 128 is ", 128);
-    say_length(b"M7 length 256 is ", 256);
-    say_header(b"M8 30 81 05 .. is ", b"\x30\x81\x05\x01\x02\x03\x04\x05");
-    say_serial(b"M9 serial 00 80 is ", b"\x00\x80");
-    say_serial(b"M9 serial 00 7F is ", b"\x00\x7f");
+fn main(rt: HostRuntime) -> io::Result<()> {
+    say_time(&rt, "M1 20050501010000Z is ", b"20050501010000Z")?;
+    say_time(&rt, "M2 20051107235244Z is ", b"20051107235244Z")?;
+    say_time(&rt, "M3 20000229000000Z is ", b"20000229000000Z")?;
+    say_time(&rt, "M4 21000229000000Z is ", b"21000229000000Z")?;
+    say_time(&rt, "M5 99991231235959Z is ", b"99991231235959Z")?;
+    say_time(&rt, "M6 20050501010060Z is ", b"20050501010060Z")?;
+    say_length(&rt, "M7 length 127 is ", 127)?;
+    say_length(&rt, "M7 length 128 is ", 128)?;
+    say_length(&rt, "M7 length 256 is ", 256)?;
+    say_header(
+        &rt,
+        "M8 30 81 05 .. is ",
+        b"\x30\x81\x05\x01\x02\x03\x04\x05",
+    )?;
+    say_serial(&rt, "M9 serial 00 80 is ", b"\x00\x80")?;
+    say_serial(&rt, "M9 serial 00 7F is ", b"\x00\x7f")
 }

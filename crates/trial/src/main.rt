@@ -9,110 +9,122 @@ mod runs; // runs over a cache
 mod say; // what is written
 
 use answer::Place;
-use libc::STDIN_FILENO;
+use std::io;
+use std::io::Read;
 
 // The line of the desk program.
-fn say_desk(body: &[u8]) {
+fn say_desk(rt: &impl Print, body: &[u8]) -> io::Result<()> {
     let mut line = [0u8; 175];
     let n = desk_line::line_for(body, &mut line);
-    say::say(&line[..n]);
+    say::say(rt, &line[..n])
 }
 
 // The place that the answer carries; - where it carries none.
-fn say_asked(question: &[u8], response: &[u8]) {
+fn say_asked(rt: &impl Print, question: &[u8], response: &[u8]) -> io::Result<()> {
     let answer = desk_case::ask(question, response);
     let place = answer.place;
     match place {
-        Place::At(p) => say::say_line(p as u64),
-        Place::Absent => say::say(b"-\n"),
+        Place::At(p) => say::say_line(rt, p as u64),
+        Place::Absent => say::say(rt, b"-\n"),
     }
 }
 
 // The same for the desk program's input: a question, and then the response to the end.
-fn say_place(body: &[u8]) {
+fn say_place(rt: &impl Print, body: &[u8]) -> io::Result<()> {
     if body.len() < 353 {
-        say_asked(body, &body[..0]);
-        return;
+        return say_asked(rt, body, &body[..0]);
     }
-    say_asked(&body[..353], &body[353..]);
+    say_asked(rt, &body[..353], &body[353..])
 }
 
-fn say_case(operation: u8, body: &[u8]) {
+fn say_case(rt: &impl Print, operation: u8, body: &[u8]) -> io::Result<()> {
     if operation == 1 {
-        say_desk(body);
-        return;
+        return say_desk(rt, body);
     }
     if operation == 2 {
-        parts::say_signed(body);
-        return;
+        return parts::say_signed(rt, body);
     }
     if operation == 3 {
-        parts::say_signature(body);
-        return;
+        return parts::say_signature(rt, body);
     }
     if operation == 4 {
-        parts::say_step(body);
-        return;
+        return parts::say_step(rt, body);
     }
     if operation == 5 {
-        papers::say_request(body);
-        return;
+        return papers::say_request(rt, body);
     }
     if operation == 6 {
-        papers::say_read(body);
-        return;
+        return papers::say_read(rt, body);
     }
     if operation == 7 {
-        papers::say_written(body);
-        return;
+        return papers::say_written(rt, body);
     }
     if operation == 8 {
-        runs::say_run(body);
-        return;
+        return runs::say_run(rt, body);
     }
     if operation == 9 {
-        parts::say_responder(body);
-        return;
+        return parts::say_responder(rt, body);
     }
     if operation == 10 {
-        say_place(body);
-        return;
+        return say_place(rt, body);
     }
-    say::say(b"-\n");
+    say::say(rt, b"-\n")
+}
+
+// Fills the buffer from what is read; whether there was enough. Where a read fails the run ends with its
+// error.
+fn read_full<R: Read>(reader: &mut R, out: &mut [u8]) -> io::Result<bool> {
+    match reader.read_exact(out) {
+        Ok(()) => Ok(true),
+        Err(error) => {
+            if error.kind() == io::ErrorKind::UnexpectedEof {
+                Ok(false)
+            } else {
+                Err(error)
+            }
+        }
+    }
 }
 
 // Reads a body of n octets into the space that is lent, and writes its line; whether it was there.
-fn one_body(operation: u8, n: usize, space: &mut [u8]) -> bool {
+fn one_body<R: Read>(
+    rt: &impl Print,
+    reader: &mut R,
+    operation: u8,
+    n: usize,
+    space: &mut [u8],
+) -> io::Result<bool> {
     if space.len() < n {
-        return false;
+        return Ok(false);
     }
-    let got = io::read_full(STDIN_FILENO, &mut space[..n]);
-    if got < n {
-        return false;
+    if !read_full(reader, &mut space[..n])? {
+        return Ok(false);
     }
-    say_case(operation, &space[..n]);
-    true
+    say_case(rt, operation, &space[..n])?;
+    Ok(true)
 }
 
 // Reads one case and writes its line; whether there was one.
-fn one_case() -> bool {
+fn one_case<R: Read>(rt: &impl Print, reader: &mut R) -> io::Result<bool> {
     let mut head = [0u8; 5];
-    let got = io::read_full(STDIN_FILENO, &mut head);
-    if got < 5 {
-        return false;
+    if !read_full(reader, &mut head)? {
+        return Ok(false);
     }
     let number = octets::number_at(&head, 1, 4);
     let octets::Number::Is(size) = number else {
-        return false;
+        return Ok(false);
     };
     let mut space = [0u8; 131072];
-    one_body(head[0], size as usize, &mut space)
+    one_body(rt, reader, head[0], size as usize, &mut space)
 }
 
-// A proved loop has to end, so it counts its turns down from a number that no run uses up.
-fn main() {
-    let mut turns = u64::MAX;
-    while 0 < turns && one_case() {
-        turns -= 1;
+// A proved loop has to end, so it counts its turns, up to a number that no run reaches.
+fn main(rt: HostRuntime) -> io::Result<()> {
+    let mut stdin = rt.stdin();
+    for _ in 0..u64::MAX {
+        if !one_case(&rt, &mut stdin)? {
+            break;
+        }
     }
+    Ok(())
 }

@@ -3,21 +3,23 @@
 // have is 0.
 use crate::say;
 use answer::{Answer, Card, Place, Reason, Verdict};
+use std::io;
 
 // Writes a request into a buffer, and what it holds then.
-fn request_in(card: Card, out: &mut [u8]) {
+fn request_in(rt: &impl Print, card: Card, out: &mut [u8]) -> io::Result<()> {
     let output = request::write_request(card, out);
-    say::say_output(out, output);
+    say::say_output(rt, out, output)
 }
 
 // The request for a card, in a buffer whose size follows the card.
-pub(crate) fn say_request(body: &[u8]) {
+pub(crate) fn say_request(rt: &impl Print, body: &[u8]) -> io::Result<()> {
     let card = fields::card_in(body);
     let size = fields::value_at(body, 61, 1) as usize;
     let mut space = [0u8; 255];
     if size <= 255 {
-        request_in(card, &mut space[..size]);
+        request_in(rt, card, &mut space[..size])?;
     }
+    Ok(())
 }
 
 // A verdict from its octets in a case.
@@ -68,16 +70,15 @@ fn refusal_in(body: &[u8]) -> Verdict {
 }
 
 // Writes a slip into a buffer, and what it holds then.
-fn slip_in(answer: Answer, out: &mut [u8]) {
+fn slip_in(rt: &impl Print, answer: Answer, out: &mut [u8]) -> io::Result<()> {
     let output = slip_write::write_slip(answer, out);
-    say::say_output(out, output);
+    say::say_output(rt, out, output)
 }
 
 // The slip of an answer, in a buffer whose size follows the answer.
-pub(crate) fn say_written(body: &[u8]) {
+pub(crate) fn say_written(rt: &impl Print, body: &[u8]) -> io::Result<()> {
     if body.len() < 90 {
-        say::say(b"short\n");
-        return;
+        return say::say(rt, b"short\n");
     }
     let verdict = verdict_in(body);
     let card = fields::card_in(&body[1..]);
@@ -90,46 +91,47 @@ pub(crate) fn say_written(body: &[u8]) {
     let size = body[89] as usize;
     let mut space = [0u8; 255];
     if size <= 255 {
-        slip_in(answer, &mut space[..size]);
+        slip_in(rt, answer, &mut space[..size])?;
     }
+    Ok(())
 }
 
 // A card as 61 octets.
-fn say_card(card: Card) {
+fn say_card(rt: &impl Print, card: Card) -> io::Result<()> {
     let name = card.name;
-    say::say_hex(&name);
+    say::say_hex(rt, &name)?;
     let key = card.key;
-    say::say_hex(&key);
-    say::say_octets(card.size as u64, 1);
+    say::say_hex(rt, &key)?;
+    say::say_octets(rt, card.size as u64, 1)?;
     let serial = card.serial;
-    say::say_hex(&serial);
+    say::say_hex(rt, &serial)
 }
 
-fn say_reason(reason: Reason) {
+fn say_reason(rt: &impl Print, reason: Reason) -> io::Result<()> {
     match reason {
-        Reason::Given(n) => say::say_octets(n as u64, 1),
-        Reason::Absent => say::say_octets(255, 1),
+        Reason::Given(n) => say::say_octets(rt, n as u64, 1),
+        Reason::Absent => say::say_octets(rt, 255, 1),
     }
 }
 
 // An accepted answer.
-fn say_answer(kind: u64, card: Card, this: u64, next: u64) {
-    say::say_octets(kind, 1);
-    say_card(card);
-    say::say_octets(this, 8);
-    say::say_octets(next, 8);
+fn say_answer(rt: &impl Print, kind: u64, card: Card, this: u64, next: u64) -> io::Result<()> {
+    say::say_octets(rt, kind, 1)?;
+    say_card(rt, card)?;
+    say::say_octets(rt, this, 8)?;
+    say::say_octets(rt, next, 8)
 }
 
 // An answer that is no refusal, in hex.
-pub(crate) fn say_said(card: Card, verdict: Verdict) {
+pub(crate) fn say_said(rt: &impl Print, card: Card, verdict: Verdict) -> io::Result<()> {
     match verdict {
         Verdict::Good { this, next } => {
-            say_answer(1, card, this, next);
-            say::say(b"0000000000000000000000");
+            say_answer(rt, 1, card, this, next)?;
+            say::say(rt, b"0000000000000000000000")
         }
         Verdict::Unknown { this, next } => {
-            say_answer(3, card, this, next);
-            say::say(b"0000000000000000000000");
+            say_answer(rt, 3, card, this, next)?;
+            say::say(rt, b"0000000000000000000000")
         }
         Verdict::Revoked {
             this,
@@ -137,43 +139,42 @@ pub(crate) fn say_said(card: Card, verdict: Verdict) {
             at,
             reason,
         } => {
-            say_answer(2, card, this, next);
-            say::say_octets(at, 8);
-            say_reason(reason);
-            say::say(b"0000");
+            say_answer(rt, 2, card, this, next)?;
+            say::say_octets(rt, at, 8)?;
+            say_reason(rt, reason)?;
+            say::say(rt, b"0000")
         }
-        Verdict::Refused { .. } => (),
+        Verdict::Refused { .. } => Ok(()),
     }
 }
 
 // What a slip says, as an answer in hex.
-pub(crate) fn say_read(body: &[u8]) {
+pub(crate) fn say_read(rt: &impl Print, body: &[u8]) -> io::Result<()> {
     let answer = slip_read::read_slip(body);
     let card = answer.card;
     let verdict = answer.verdict;
-    say_said(card, verdict);
+    say_said(rt, card, verdict)?;
     match verdict {
-        Verdict::Good { .. } => say::say(b"\n"),
-        Verdict::Unknown { .. } => say::say(b"\n"),
-        Verdict::Revoked { .. } => say::say(b"\n"),
-        Verdict::Refused { number, status } => say_refused(number, status),
+        Verdict::Good { .. } => say::say(rt, b"\n"),
+        Verdict::Unknown { .. } => say::say(rt, b"\n"),
+        Verdict::Revoked { .. } => say::say(rt, b"\n"),
+        Verdict::Refused { number, status } => say_refused(rt, number, status),
     }
 }
 
 // A refusal as an answer, or that the slip breaks the slip rules.
-fn say_refused(number: u8, status: u8) {
+fn say_refused(rt: &impl Print, number: u8, status: u8) -> io::Result<()> {
     if number == 17 {
-        say::say(b"r17\n");
-        return;
+        return say::say(rt, b"r17\n");
     }
-    say::say_octets(4, 1);
+    say::say_octets(rt, 4, 1)?;
     let card = answer::empty_card();
-    say_card(card);
-    say::say_octets(0, 8);
-    say::say_octets(0, 8);
-    say::say_octets(0, 8);
-    say::say_octets(0, 1);
-    say::say_octets(number as u64, 1);
-    say::say_octets(status as u64, 1);
-    say::say(b"\n");
+    say_card(rt, card)?;
+    say::say_octets(rt, 0, 8)?;
+    say::say_octets(rt, 0, 8)?;
+    say::say_octets(rt, 0, 8)?;
+    say::say_octets(rt, 0, 1)?;
+    say::say_octets(rt, number as u64, 1)?;
+    say::say_octets(rt, status as u64, 1)?;
+    say::say(rt, b"\n")
 }
