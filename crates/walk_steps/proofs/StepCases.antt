@@ -1,7 +1,7 @@
 -- The cases of a step, by what is said of the place.
 -- step_sum, step_entry, step_end, step_refused; part_entry, part_end, part_refused.
 -- Assumes nothing.
-use Prim.Native.Nat.{ℕ, ◌+◌, ◌-◌}
+use Prim.Native.Nat.{ℕ, ◌+◌}
 use native.Mathlib.Omega.{arith}
 use mathlib.Core.Path.{◌≡◌, sym, ◌∙◌}
 use mathlib.Core.List.{List, []}

@@ -1,7 +1,6 @@
 -- `desk_case::questions::ask` meets its contract: the form, then the question.
 -- Assumes nothing.
 use Rattle.desk_case.proofs.Cases.{asked_out, asked_form}
-use borrow.Author.Rules.{rules}
 use Rattle.desk_case.proofs.questions.ask.Goals as goal
 
 pub returns-then-not-form_fits : goal.returns-then-not-form_fits

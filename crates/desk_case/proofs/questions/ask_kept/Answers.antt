@@ -1,7 +1,6 @@
 -- `desk_case::questions::ask_kept` meets its contract: the question is put together, and the check answers it.
 -- Assumes nothing.
 use Rattle.desk_case.proofs.Cases.{asked_long, asked_sum, asked_end, asked_checked}
-use borrow.Author.Rules.{rules}
 use Rattle.desk_case.proofs.questions.ask_kept.Goals as goal
 
 pub question_in-q-requires : goal.question_in-q-requires

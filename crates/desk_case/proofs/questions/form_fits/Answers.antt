@@ -1,6 +1,5 @@
 -- `desk_case::questions::form_fits` meets its contract, test by test. Assumes nothing.
 use native.Mathlib.Omega.{arith}
-use borrow.Author.Rules.{rules}
 use Rattle.desk_case.proofs.Cases.{form_long, form_kind, form_name, form_fill}
 use Rattle.desk_case.proofs.questions.form_fits.Goals as goal
 

@@ -1,5 +1,4 @@
 -- `desk_case::questions::question_in` meets its contract. Assumes nothing.
-use borrow.Author.Rules.{rules}
 use Rattle.desk_case.proofs.Cases.{question_parts}
 use Rattle.desk_case.proofs.questions.question_in.Goals as goal
 

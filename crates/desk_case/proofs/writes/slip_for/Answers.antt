@@ -1,7 +1,6 @@
 -- `desk_case::writes::slip_for` meets its contract: every answer keeps the slip rules.
 -- Assumes nothing.
 use Rattle.desk_case.proofs.SlipCases.{slip_buffer, slip_written, slip_none}
-use borrow.Author.Rules.{rules}
 use Rattle.desk_case.proofs.writes.slip_for.Goals as goal
 
 pub returns-in-Octets : goal.returns-in-Octets
