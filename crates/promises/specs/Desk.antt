@@ -11,11 +11,10 @@ use Rattle.answer.specs.Card.{all_zero}
 use Rattle.answer.specs.Verdict.{without_place, refused}
 use Rattle.fields.specs.Field.{field_at, value_at, card_in}
 use Rattle.rules.specs.Ruling.{answer_of}
-use Rattle.rules.specs.Examples.{failure}
 use Rattle.slip.specs.Slip.{slip_of, slip_ok, read_of}
 use Rattle.slip.specs.SlipLaws.{read_written}
 use Rattle.hexadecimal.specs.Hex.{hex_of}
-use Rattle.desk_question.specs.Asked.{name_size, question_in, name_in, fill_in, question_ok, asked, desk_of}
+use Rattle.desk_question.specs.Asked.{question_in, name_in, fill_in, question_ok, desk_of}
 use Rattle.desk_question.proofs.AskedLaws as desk
 use Rattle.desk_question.proofs.SizeLaws.{asked_sized}
 use Rattle.desk_question.specs.Line.{line_of}

@@ -34,7 +34,6 @@ use Rattle.rules.proofs.AcceptedLaws.{range_exactly}
 use Rattle.rules.specs.Ruling.{answer_of}
 use Rattle.rules.proofs.RefusalLaws.{refusal_whole}
 use Rattle.rules.proofs.EarlyLaws.{three_exactly, place_exactly}
-use Rattle.walk_rules.specs.Handed.{at}
 use Rattle.promises.specs.OneReading.{basic_exactly, error_exactly}
 use Rattle.promises.specs.Envelopes.{IsError, IsOtherType, IsBasic, other_type_exactly, unfit_exactly}
 

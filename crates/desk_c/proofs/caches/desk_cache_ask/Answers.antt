@@ -1,5 +1,4 @@
 -- `desk_c::caches::desk_cache_ask` meets its contract. Assumes nothing.
-use borrow.Author.Rules.{rules}
 use Rattle.desk_c.proofs.CacheCases.{find_placed}
 use Rattle.desk_c.specs.Caches.{found_number}
 use Rattle.desk_c.proofs.TellCases.{told, ask_part}

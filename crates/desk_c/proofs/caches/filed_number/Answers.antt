@@ -1,5 +1,4 @@
 -- `desk_c::caches::filed_number` meets its contract. Assumes nothing.
-use borrow.Author.Rules.{rules}
 use Rattle.desk_c.proofs.caches.filed_number.Goals as goal
 
 pub returns-in-Count : goal.returns-in-Count

@@ -1,5 +1,4 @@
 -- `desk_c::caches::found_number` meets its contract. Assumes nothing.
-use borrow.Author.Rules.{rules}
 use Rattle.desk_c.specs.Caches.{found_number}
 use Rattle.desk_c.proofs.caches.found_number.Goals as goal
 

@@ -1,5 +1,4 @@
 -- `desk_c::caches::found_span` meets its contract. Assumes nothing.
-use borrow.Author.Rules.{rules}
 use Rattle.desk_c.specs.Caches.{found_span}
 use Rattle.desk_c.proofs.CacheCases.{span_placed}
 use Rattle.desk_c.proofs.caches.found_span.Goals as goal

@@ -1,5 +1,4 @@
 -- `desk_c::papers::desk_request` meets its contract. Assumes nothing.
-use borrow.Author.Rules.{rules}
 use Rattle.desk_c.proofs.PaperCases.{no_card, card_kept, card_answer, card_buffer}
 use Rattle.desk_c.proofs.papers.desk_request.Goals as goal
 

@@ -1,5 +1,4 @@
 -- `desk_c::papers::desk_slip` meets its contract. Assumes nothing.
-use borrow.Author.Rules.{rules}
 use borrow.Author.Tests.{eq-eqb, ne_eqb}
 use Rattle.desk_c.specs.Papers.{slip_number}
 use Rattle.desk_c.proofs.papers.desk_slip.Goals as goal

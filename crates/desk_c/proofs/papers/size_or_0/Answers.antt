@@ -1,5 +1,4 @@
 -- `desk_c::papers::size_or_0` meets its contract. Assumes nothing.
-use borrow.Author.Rules.{rules}
 use Rattle.desk_c.specs.Papers.{size_or0}
 use Rattle.desk_c.proofs.papers.size_or_0.Goals as goal
 

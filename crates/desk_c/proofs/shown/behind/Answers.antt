@@ -1,5 +1,4 @@
 -- `desk_c::shown::behind` meets its contract. Assumes nothing.
-use borrow.Author.Rules.{rules}
 use Rattle.desk_c.specs.Places.{behind_header}
 use Rattle.desk_c.proofs.ShownCases.{behind_inside, behind_found}
 use Rattle.desk_c.proofs.shown.behind.Goals as goal

@@ -1,5 +1,4 @@
 -- `desk_c::shown::desk_certificates` meets its contract. Assumes nothing.
-use borrow.Author.Rules.{rules}
 use Rattle.show.proofs.PartsLaws.{part_lent, list_inside}
 use Rattle.read_response.specs.Refusals.{refusal_of}
 use Rattle.read_response.specs.declared.Judged.{Judged}

@@ -1,5 +1,4 @@
 -- `desk_c::shown::desk_entry` meets its contract. Assumes nothing.
-use borrow.Author.Rules.{rules}
 use Rattle.desk_c.specs.Places.{entry_number, entry_span}
 use Rattle.desk_c.proofs.TellCases.{told, told_of}
 use Rattle.desk_c.proofs.shown.desk_entry.Goals as goal

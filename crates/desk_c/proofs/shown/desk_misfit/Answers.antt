@@ -1,5 +1,4 @@
 -- `desk_c::shown::desk_misfit` meets its contract. Assumes nothing.
-use borrow.Author.Rules.{rules}
 use mathlib.Core.Path.{ap}
 use Rattle.read_response.specs.declared.Refusal.{Refusal}
 use Rattle.desk_c.proofs.TellCases.{place_put, place_kept}

@@ -1,5 +1,4 @@
 -- `desk_c::shown::desk_refusal` meets its contract. Assumes nothing.
-use borrow.Author.Rules.{rules}
 use mathlib.Core.Path.{ap}
 use Rattle.read_response.specs.declared.Refusal.{Refusal}
 use Rattle.desk_c.proofs.shown.desk_refusal.Goals as goal

@@ -1,5 +1,4 @@
 -- `desk_c::shown::desk_signed` meets its contract. Assumes nothing.
-use borrow.Author.Rules.{rules}
 use Rattle.read_response.specs.Refusals.{refusal_of}
 use Rattle.read_response.specs.declared.Judged.{Judged}
 use Rattle.show.specs.Parts.{shown_parts}

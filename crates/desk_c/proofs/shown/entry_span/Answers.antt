@@ -1,5 +1,4 @@
 -- `desk_c::shown::entry_span` meets its contract. Assumes nothing.
-use borrow.Author.Rules.{rules}
 use Rattle.desk_c.specs.Places.{entry_span}
 use Rattle.desk_c.proofs.shown.entry_span.Goals as goal
 

@@ -1,5 +1,4 @@
 -- `desk_c::shown::held_in` meets its contract. Assumes nothing.
-use borrow.Author.Rules.{rules}
 use Rattle.desk_c.proofs.ShownCases.{held_before, held_none, held_some}
 use Rattle.desk_c.proofs.shown.held_in.Goals as goal
 

@@ -1,5 +1,4 @@
 -- `desk_c::shown::tell` meets its contract. Assumes nothing.
-use borrow.Author.Rules.{rules}
 use mathlib.Core.Path.{refl, ap}
 use Rattle.read_response.specs.declared.Refusal.{Refusal}
 use Rattle.desk_c.proofs.shown.tell.Goals as goal
