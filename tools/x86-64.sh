@@ -57,16 +57,17 @@ install() {
 library() {
     archive=target/staticlib/libdesk_c.a
     if [ -f "$archive" ]; then
-        newer=$(find crates crates.txt -type f -newer "$archive" | head -n 1)
+        newer=$(find crates crates.txt -name out -prune -o -type f -newer "$archive" -print | head -n 1)
         [ -n "$newer" ] || return 0
     fi
-    have rt || die "target/staticlib/libdesk_c.a is missing or old, and the Rattle kit's command rt" \
-        "that makes it is not on the PATH"
-    say "making target/staticlib/libdesk_c.a with 'rt staticlib desk_c'"
-    said=$(rt staticlib desk_c 2>&1) || {
+    have rt || die "$archive is missing or old, and the Rattle kit's command rt that makes it is not on the PATH"
+    say "making $archive with 'rt lib' in crates/desk_c_c, which proves first what is not proved yet"
+    said=$(tools/progress lib desk_c_c) || {
         printf '%s\n' "$said" >&2
-        die "'rt staticlib desk_c' failed"
+        die "'rt lib' in crates/desk_c_c failed"
     }
+    mkdir -p "${archive%/*}"
+    cp crates/desk_c_c/out/libdesk_c_c.a "$archive" || die "'rt lib' in crates/desk_c_c made no archive"
 }
 
 have_x86_64() {

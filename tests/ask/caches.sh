@@ -8,7 +8,7 @@ later_days=0000000042781e90000000004279700f
 later=01$card$later_days
 revoked=02$other${first_days}000000004272ca8006
 future=03$third$later_days
-if [ -e "$top/target/bin/room" ]; then
+if [ -e "$top/crates/room/out/room" ]; then
     full=
     for serial in $(seq 0 63); do
         full="$full 01$threes${threes}01$(printf %02x "$serial")$(printf %038d 0)$first_days"

@@ -1,5 +1,5 @@
 # The proved program desk.
-if [ -e "$top/target/bin/desk" ]; then
+if [ -e "$top/crates/desk/out/desk" ]; then
     cd "$top" || exit 2
     is "document 01's case" "$(./ask "$room/unauthorized.der" --serial 05 --name-hash $ones \
         --key-hash $twos --now 2005-05-01T01:00:00Z --verdict valid --signer-key $threes --hex |
@@ -36,7 +36,7 @@ else
 fi
 
 # The proved programs desk and trial: where responses break.
-if [ -e "$top/target/bin/desk" ] && [ -e "$top/target/bin/trial" ]; then
+if [ -e "$top/crates/desk/out/desk" ] && [ -e "$top/crates/trial/out/trial" ]; then
     cd "$top" || exit 2
     breaks() { # RESPONSE OCTET: the line that tells where a response breaks
         is "where $1 breaks" "$(./ask "$1" --card tests/ask/card.pem --issuer tests/ask/ca.pem |
@@ -58,7 +58,7 @@ else
 fi
 
 # All three, on the README, whose room is made in a folder of its own.
-if [ -e "$top/target/bin/desk" ] && [ -e "$top/target/bin/room" ] && [ -e "$top/target/bin/trial" ]; then
+if [ -e "$top/crates/desk/out/desk" ] && [ -e "$top/crates/room/out/room" ] && [ -e "$top/crates/trial/out/trial" ]; then
     mkdir "$room/readme"
     cd "$room/readme" || exit 2
     ln -s "$top/tests" tests

@@ -87,10 +87,10 @@ exit "$(cat status)"
 END
 chmod +x run
 echo 0 >status
-mkdir -p target/bin
-: >target/bin/desk
-: >target/bin/room
-: >target/bin/trial
+for program in desk room trial; do
+    mkdir -p "crates/$program/out"
+    : >"crates/$program/out/$program"
+done
 ln -s "$top" top
 mkdir tools
 cp "$top/ask" ask

@@ -12,7 +12,7 @@ from .places import CACHE
 from .slips import Broken, keep, slip_of
 from .values import BadUse, complain
 
-# The folder of ./ask, which has ./run and target too: that above tools.
+# The folder of ./ask, which has ./run and crates too: that above tools.
 TOP = os.path.dirname(os.path.dirname(os.path.dirname(os.path.abspath(__file__))))
 
 # What it means that a program runs and gives nothing.
@@ -22,18 +22,20 @@ SILENT = {'desk': 'there is no answer', 'room': 'the cache gives no answer',
 
 def build(program):
     """Builds a program where it is missing."""
-    if os.path.exists(os.path.join(TOP, 'target', 'bin', program)):
+    folder = os.path.join(TOP, 'crates', program)
+    if os.path.exists(os.path.join(folder, 'out', program)):
         return
     if not shutil.which('rt'):
         raise BadUse(f"the program {program} is not built, and the Rattle kit's command rt, "
                      'which builds it, is not on the PATH')
-    complain(f"the program {program} is not built: running 'rt check {program}', "
+    complain(f"the program {program} is not built: running 'rt run' in crates/{program}, "
              'which may take minutes')
-    done = subprocess.run(['rt', 'check', program], cwd=TOP, stdin=subprocess.DEVNULL,
+    # The program runs too then, and is given nothing.
+    done = subprocess.run(['rt', 'run'], cwd=folder, stdin=subprocess.DEVNULL,
                           stdout=subprocess.PIPE, stderr=subprocess.STDOUT)
     if done.returncode:
         sys.stderr.buffer.write(done.stdout)
-        raise BadUse(f"'rt check {program}' failed, so nothing was asked")
+        raise BadUse(f"'rt run' in crates/{program} failed, so nothing was asked")
 
 
 def output_of(program, octets):

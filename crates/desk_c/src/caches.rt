@@ -32,8 +32,7 @@ fn filed_places(filed: Filed) -> usize
 
 // Files a slip in the cache: 0 and how many places are then filled, or 19, 1, 17 or 20, no place counted
 // and nothing written.
-#[unsafe(no_mangle)]
-pub extern "C" fn desk_cache_file(
+pub fn desk_cache_file(
     cache: &mut [u8],
     slip: &[u8],
     time: u64,
@@ -91,8 +90,7 @@ fn found_span(cache: &[u8], found: Sought) -> Span
 
 // Asks the cache for a card of 61 octets: 0 and where its slip is; or 19, 1, 15 or 16, or 256 where no
 // place has the card, and an empty part.
-#[unsafe(no_mangle)]
-pub extern "C" fn desk_cache_ask(
+pub fn desk_cache_ask(
     cache: &[u8],
     card: &[u8],
     time: u64,

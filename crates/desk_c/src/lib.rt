@@ -1,5 +1,5 @@
-// The library's functions for C and Rust: include/desk.h says what each answers. A slice is a pointer
-// and a length there.
+// What the functions for C and Rust answer, as include/desk.h says. Crate desk_c_c exports each under the same
+// name; a slice is a pointer and a length there.
 //
 // No function here has a requirement beyond what its types say, keeps state or allocates.
 #![tactic(auto)]

@@ -11,8 +11,7 @@ use fields::Output;
 
 // Writes the slip of the answer to a question of 353 octets: its length, or 0 where the buffer is too
 // short. Reading that slip gives back the answer, without its place.
-#[unsafe(no_mangle)]
-pub extern "C" fn desk_check(question: &[u8], response: &[u8], slip: &mut [u8]) -> usize
+pub fn desk_check(question: &[u8], response: &[u8], slip: &mut [u8]) -> usize
     ensures value { result ≡ put_size slip.old (slip_of (asked question.now response.now)) }
     ensures slip_after { slip.new ≡ put_in slip.old 0 (slip_of (asked question.now response.now)) }
     ensures response_value { read_of 20 (slip_of (asked question.now response.now)) ≡ without_place (asked question.now response.now) }
@@ -21,8 +20,7 @@ pub extern "C" fn desk_check(question: &[u8], response: &[u8], slip: &mut [u8]) 
 }
 
 // Whether octets are a slip: 0, or 17 where they break the slip rules.
-#[unsafe(no_mangle)]
-pub extern "C" fn desk_slip(slip: &[u8]) -> usize
+pub fn desk_slip(slip: &[u8]) -> usize
     ensures { result ≡ slip_number (read_of 20 slip.now).verdict }
 {
     let answer = slip_read::read_slip(slip);
@@ -47,8 +45,7 @@ fn size_or_0(output: Output) -> usize
 
 // Writes the request for a card of 61 octets: its length, or 0 where the card does not fit or the
 // buffer is too short.
-#[unsafe(no_mangle)]
-pub extern "C" fn desk_request(card: &[u8], out: &mut [u8]) -> usize
+pub fn desk_request(card: &[u8], out: &mut [u8]) -> usize
     ensures value { result ≡ request_size card.now (length out.old) }
     ensures out_after { out.new ≡ request_in card.now out.old }
 {

@@ -11,8 +11,7 @@ use read_response::{Judged, Span};
 use show::Entry;
 
 // The refusal of a response before any question is asked: 0 or 2 to 5, and the status that goes with 4.
-#[unsafe(no_mangle)]
-pub extern "C" fn desk_refusal(response: &[u8], status: &mut usize) -> usize
+pub fn desk_refusal(response: &[u8], status: &mut usize) -> usize
     ensures value { result ≡ (refusal_of (judged_of response.now)).number }
     ensures status_after { status.new ≡ (refusal_of (judged_of response.now)).status }
 {
@@ -22,8 +21,7 @@ pub extern "C" fn desk_refusal(response: &[u8], status: &mut usize) -> usize
 }
 
 // The same refusal, and the place that goes with 3: it is written with 3 alone.
-#[unsafe(no_mangle)]
-pub extern "C" fn desk_misfit(response: &[u8], place: &mut usize) -> usize
+pub fn desk_misfit(response: &[u8], place: &mut usize) -> usize
     ensures value { result ≡ (refusal_of (judged_of response.now)).number }
     ensures place_after { place.new ≡ place_over (refusal_of (judged_of response.now)).place place.old }
 {
@@ -48,8 +46,7 @@ fn tell(judged: Judged, span: Span, from: &mut usize, len: &mut usize) -> usize
 }
 
 // The signed part, header included: 0 and where it is, or the refusal's number and an empty part.
-#[unsafe(no_mangle)]
-pub extern "C" fn desk_signed(response: &[u8], from: &mut usize, len: &mut usize) -> usize
+pub fn desk_signed(response: &[u8], from: &mut usize, len: &mut usize) -> usize
     ensures value { result ≡ (refusal_of (judged_of response.now)).number }
     ensures from_after { from.new ≡ (signed_span (judged_of response.now)).start }
     ensures len_after { len.new ≡ (signed_span (judged_of response.now)).len }
@@ -60,8 +57,7 @@ pub extern "C" fn desk_signed(response: &[u8], from: &mut usize, len: &mut usize
 }
 
 // The signature's algorithm identifier, header included, likewise.
-#[unsafe(no_mangle)]
-pub extern "C" fn desk_algorithm(response: &[u8], from: &mut usize, len: &mut usize) -> usize
+pub fn desk_algorithm(response: &[u8], from: &mut usize, len: &mut usize) -> usize
     ensures value { result ≡ (refusal_of (judged_of response.now)).number }
     ensures from_after { from.new ≡ (algorithm_in (judged_of response.now)).start }
     ensures len_after { len.new ≡ (algorithm_in (judged_of response.now)).len }
@@ -72,8 +68,7 @@ pub extern "C" fn desk_algorithm(response: &[u8], from: &mut usize, len: &mut us
 }
 
 // The signature without its 00, likewise.
-#[unsafe(no_mangle)]
-pub extern "C" fn desk_signature(response: &[u8], from: &mut usize, len: &mut usize) -> usize
+pub fn desk_signature(response: &[u8], from: &mut usize, len: &mut usize) -> usize
     ensures value { result ≡ (refusal_of (judged_of response.now)).number }
     ensures from_after { from.new ≡ (signature_span (judged_of response.now)).start }
     ensures len_after { len.new ≡ (signature_span (judged_of response.now)).len }
@@ -115,8 +110,7 @@ fn held_in(s: &[u8], at: Span) -> Span
 
 // The certificates one after the other, without what is around them: 0 and where they are, an empty part
 // where there are none; or the refusal's number and an empty part.
-#[unsafe(no_mangle)]
-pub extern "C" fn desk_certificates(response: &[u8], from: &mut usize, len: &mut usize) -> usize
+pub fn desk_certificates(response: &[u8], from: &mut usize, len: &mut usize) -> usize
     ensures value { result ≡ (refusal_of (judged_of response.now)).number }
     ensures from_after { from.new ≡ (certificates_in response.now (judged_of response.now)).start }
     ensures len_after { len.new ≡ (certificates_in response.now (judged_of response.now)).len }
@@ -151,13 +145,7 @@ fn entry_number(entry: Entry) -> u8
 
 // The entry with this ordinal, counted from 0, header included: 0 and where it is, an empty part past
 // the last one; or the refusal's number and an empty part.
-#[unsafe(no_mangle)]
-pub extern "C" fn desk_entry(
-    response: &[u8],
-    ordinal: usize,
-    from: &mut usize,
-    len: &mut usize,
-) -> usize
+pub fn desk_entry(response: &[u8], ordinal: usize, from: &mut usize, len: &mut usize) -> usize
     ensures value { result ≡ entry_number (entry_of response.now ordinal) }
     ensures from_after { from.new ≡ (entry_span (entry_of response.now ordinal)).start }
     ensures len_after { len.new ≡ (entry_span (entry_of response.now ordinal)).len }

@@ -1,7 +1,12 @@
 -- `desk_c::papers::desk_slip` meets its contract. Assumes nothing.
+use borrow.Author.Rules.{rules}
 use borrow.Author.Tests.{eq-eqb, ne_eqb}
 use Rattle.desk_c.specs.Papers.{slip_number}
 use Rattle.desk_c.proofs.papers.desk_slip.Goals as goal
+
+pub read_slip-answer-requires : goal.read_slip-answer-requires
+unfolding slip_number
+read_slip-answer-requires c = search rules
 
 pub returns-in-Good : goal.returns-in-Good
 unfolding slip_number
