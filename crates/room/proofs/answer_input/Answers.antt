@@ -20,14 +20,14 @@ returns-in-End c =
     record {
       answers =
           answers_end
-              _ _ _ _ _ _ _ room cache
-              c.type_inv.space
-              c.requires.cache_room_least_in_bounds
-              _
-              c.in-End.is
-              e.value
-              e.line_after
-              e.cache_after;
+          _ _ _ _ _ _ _ room cache
+          c.type_inv.space
+          c.requires.cache_room_least_in_bounds
+          _
+          c.in-End.is
+          e.value
+          e.line_after
+          e.cache_after;
       inside = inside _ _ _ _ _ _ e.value e.line_after e.cache_after;
     }
 
