@@ -10,11 +10,11 @@ use contract.Lifetimes.{Lfts}
 use contract.Monad.{fact}
 use denote.Triple.Clauses.{Ended, AtExit, Clauses}
 use Rattle.walk_rules.specs.Walked.{start_of, say_of, hand_of, moved_of}
-use Rattle.walk_steps.proofs.step_at.Reads as walk-steps-step-at
-use Rattle.walk_steps.proofs.part_in.Reads as walk-steps-part-in
+use Rattle.walk_steps.proofs.step_at.Reads as walk_steps_step_at
+use Rattle.walk_steps.proofs.part_in.Reads as walk_steps_part_in
 use Rattle.walk.specs.contracts.start as walk_start
-use Rattle.walk.specs.contracts.next as walk-next
-use Rattle.walk.proofs.step_from.Reads as walk-step-from
+use Rattle.walk.specs.contracts.next as walk_next
+use Rattle.walk.proofs.step_from.Reads as walk_step_from
 use Rattle.contracts.specs.Settled.{Settled, settled, Settles, settles}
 
 module _ (T : Ended) where
@@ -40,10 +40,10 @@ pub walk_start_settled : Settled (λ k a. Unit {0}) start_learnt
 walk_start_settled = settled _ _ _ (λ k a. tt) (λ k a z e p. p)
 
 -- ── next: what a step of a lent walk says, the octets that it hands out, and the walk then ──
-abbrev pub next_learnt : ExitClaim walk-next.ended
+abbrev pub next_learnt : ExitClaim walk_next.ended
 next_learnt k a z e = (z.says ≡ say_of a.0.now) × (z.part.now ≡ hand_of a.0.now) × (e.0.now ≡ moved_of a.0.now)
 
-pub walk_next_plain : Plain walk-next.ended (λ w. walk-next.clauses w.𝓛 w.𝓜.mem w.𝓡.run) next_learnt
+pub walk_next_plain : Plain walk_next.ended (λ w. walk_next.clauses w.𝓛 w.𝓜.mem w.𝓡.run) next_learnt
 walk_next_plain w k a g = (refl, λ z e. refl)
 
 pub walk_next_settled : Settles (λ k a. Unit {0}) next_learnt (λ k z e. z.says)
@@ -56,12 +56,12 @@ pub walk_next_buffer : Settles (λ k a. Unit {0}) next_learnt (λ k z e. e.0.now
 walk_next_buffer = settles _ _ (λ k z e. e.0.now) _ (λ k a. tt) (λ k a z e p. p.2)
 
 -- ── step_from: a step at a place, as numbers ──
-pub walk_step_from_settled : Settled walk-step-from.Asked walk-step-from.Learnt
+pub walk_step_from_settled : Settled walk_step_from.Asked walk_step_from.Learnt
 walk_step_from_settled = settled _ _ _ (λ k a. tt) (λ k a z e p. p)
 
 -- ── step_at, part_in: a step by the response and the place, and its part by what was said ──
-pub walk_steps_step_at_settled : Settled walk-steps-step-at.Asked walk-steps-step-at.Learnt
+pub walk_steps_step_at_settled : Settled walk_steps_step_at.Asked walk_steps_step_at.Learnt
 walk_steps_step_at_settled = settled _ _ _ (λ k a. tt) (λ k a z e p. p)
 
-pub walk_steps_part_in_settled : Settles walk-steps-part-in.Asked walk-steps-part-in.Learnt (λ k z e. z.now)
+pub walk_steps_part_in_settled : Settles walk_steps_part_in.Asked walk_steps_part_in.Learnt (λ k z e. z.now)
 walk_steps_part_in_settled = settles _ _ (λ k z e. z.now) _ (λ k a. tt) (λ k a z e p. p)
