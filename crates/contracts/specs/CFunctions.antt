@@ -1,8 +1,8 @@
 -- The functions of include/desk.h, and the two under the check and the program: each meets its contract, and its contract tells
 -- what it returns and what it writes.
 -- desk_request, desk_refusal, desk_misfit, desk_signed, desk_algorithm, desk_signature, desk_certificates, desk_check, desk_slip,
--- desk_entry, desk_cache_file, desk_cache_ask, slip_for, each with -met and -tells; line-for's are in Writers.
--- What -met and -tells say, and Tells, are in Functions. In C a slice is a pointer and a length; here it is one of the arguments
+-- desk_entry, desk_cache_file, desk_cache_ask, slip_for, each with _met and _tells; line_for's are in Writers.
+-- What _met and _tells say, and Tells, are in Functions. In C a slice is a pointer and a length; here it is one of the arguments
 -- `a`, counted `a.0`, `a.1.0`, `a.1.1.0`, and what is written is among the parameters at exit `e`, counted likewise.
 -- Assumes nothing.
 use Rattle.std.specs.Prelude.{◌≡◌, length}

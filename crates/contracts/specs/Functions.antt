@@ -1,8 +1,8 @@
 -- The functions that the promises speak of: each meets its contract, and its contract tells what it returns.
--- Tells; check, judge, refuse, signed_part and signature, and of the cache file, find and ask, each with -met and -tells. The writers, the slip reader, the
+-- Tells; check, judge, refuse, signed_part and signature, and of the cache file, find and ask, each with _met and _tells. The writers, the slip reader, the
 -- walk and the program's line are in Writers, the functions for C in CFunctions.
--- -met: of every model of the program logic, a call of the function is safe, ends, and leaves what its contract says;
--- -tells: what that is, of the arguments `a` in their order, `a.0`, `a.1.0`, `a.1.1.0`, and the parameters at exit `e`.
+-- _met: of every model of the program logic, a call of the function is safe, ends, and leaves what its contract says;
+-- _tells: what that is, of the arguments `a` in their order, `a.0`, `a.1.0`, `a.1.1.0`, and the parameters at exit `e`.
 -- The like of every public function is proved in its own crate; that all are settled is in Settled and the files after it.
 -- Assumes nothing.
 use Rattle.std.specs.Prelude.{◌≡◌}

@@ -1,7 +1,7 @@
 -- Every slip that the desk writes is read back, without a place: of any call, whatever the octets of its arguments are. That they are octets is in
 -- the arguments' types, slices of `u8`; nothing is asked of them.
 -- desk_check_reads, line_for_reads.
--- What -tells says of the same calls is in CFunctions and Writers; the arguments `a` and the parameters at exit `e` are counted
+-- What _tells says of the same calls is in CFunctions and Writers; the arguments `a` and the parameters at exit `e` are counted
 -- as there, and `z` is what is returned: the number of octets written, 0 where the buffer has no room for them.
 -- Assumes nothing.
 use Rattle.std.specs.Prelude.{ℕ, ◌+◌, ◌≡◌, refl, Bool, true, false, cond, List, [], ◌∷◌, ◌++◌, ltb, length, take, drop}

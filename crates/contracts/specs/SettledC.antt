@@ -1,6 +1,6 @@
 -- Settled contracts of the functions for C.
--- One theorem for each, desk-c-FUNCTION-settled; of what is written through a pointer, -buffer (of a part, where it starts; of
--- desk_refusal, the status, of desk_misfit the place) and -length say the same; of desk_cache_file, -buffer is of the cache and -places of the count.
+-- One theorem for each, desk_c_FUNCTION_settled; of what is written through a pointer, _buffer (of a part, where it starts; of
+-- desk_refusal, the status, of desk_misfit the place) and _length say the same; of desk_cache_file, _buffer is of the cache and _places of the count.
 -- What it is to be settled is in Settled. Assumes nothing.
 use Rattle.contracts.specs.Settled.{Settled, settled, Settles, settles}
 use Rattle.desk_c.proofs.desk_check.Reads as desk_c_desk_check

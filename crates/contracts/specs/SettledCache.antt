@@ -1,7 +1,7 @@
 -- Settled contracts of the room's cache.
--- One theorem for each public function, CRATE-FUNCTION-settled, crate by crate:
--- cache_place, cache_places, cache_file, cache_ask, cache_line (-buffer of the line, -cache of the cache).
--- Of a function that writes, CRATE-FUNCTION-buffer says the same of the buffer. Of a returned part, its octets are said.
+-- One theorem for each public function, CRATE_FUNCTION_settled, crate by crate:
+-- cache_place, cache_places, cache_file, cache_ask, cache_line (_buffer of the line, _cache of the cache).
+-- Of a function that writes, CRATE_FUNCTION_buffer says the same of the buffer. Of a returned part, its octets are said.
 -- What it is to be settled is in Settled; the functions for C are in SettledC. Assumes nothing.
 use Rattle.contracts.specs.Settled.{Settled, settled, Settles, settles}
 use Rattle.cache_place.proofs.place_fits.Reads as cache_place_place_fits

@@ -1,7 +1,7 @@
 -- Settled contracts of requests, slips and the desk.
--- One theorem for each public function, CRATE-FUNCTION-settled, crate by crate:
--- fields, read_errors, request, slip, slip_write, slip_read, hex, desk_intake, desk_case, desk_line.
--- Of a function that writes, CRATE-FUNCTION-buffer says the same of the buffer. Of a returned part, its octets are said.
+-- One theorem for each public function, CRATE_FUNCTION_settled, crate by crate:
+-- fields, read_errors, request, slip, slip_write, slip_read, hexadecimal, desk_intake, desk_case, desk_line.
+-- Of a function that writes, CRATE_FUNCTION_buffer says the same of the buffer. Of a returned part, its octets are said.
 -- What it is to be settled is in Settled. Assumes nothing.
 use Rattle.contracts.specs.Settled.{Settled, settled, Settles, settles}
 use Rattle.fields.proofs.hash_at.Reads as fields_hash_at
@@ -86,7 +86,7 @@ slip_write_write_unjudged_buffer = settles _ _ (λ k z e. e.1.0.now) _ (λ k a. 
 pub slip_read_read_slip_settled : Settled slip_read_read_slip.Asked slip_read_read_slip.Learnt
 slip_read_read_slip_settled = settled _ _ _ (λ k a. tt) (λ k a z e p. p)
 
--- ── crate hex ──
+-- ── crate hexadecimal ──
 pub hex_hex_settled : Settled hex_hex.Asked hex_hex.Learnt
 hex_hex_settled = settled _ _ _ (λ k a. tt) (λ k a z e p. p.0)
 

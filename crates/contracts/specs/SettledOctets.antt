@@ -1,7 +1,7 @@
 -- Settled contracts of octets, elements, contents and times.
--- One theorem for each public function, CRATE-FUNCTION-settled, crate by crate:
+-- One theorem for each public function, CRATE_FUNCTION_settled, crate by crate:
 -- octets, element, content, calendar, freshness.
--- Of a function that writes, CRATE-FUNCTION-buffer says the same of the buffer. Of a returned part, its octets are said.
+-- Of a function that writes, CRATE_FUNCTION_buffer says the same of the buffer. Of a returned part, its octets are said.
 -- What it is to be settled is in Settled. Assumes nothing.
 use Rattle.contracts.specs.Settled.{Settled, settled, Settles, settles}
 use Rattle.octets.proofs.same.Reads as octets_same

@@ -1,7 +1,7 @@
 -- Settled contracts of the response and its parts.
--- One theorem for each public function, CRATE-FUNCTION-settled, crate by crate:
+-- One theorem for each public function, CRATE_FUNCTION_settled, crate by crate:
 -- read_sequence to read_response, in the order of crates.txt, and show.
--- Of a function that writes, CRATE-FUNCTION-buffer says the same of the buffer. Of a returned part, its octets are said.
+-- Of a function that writes, CRATE_FUNCTION_buffer says the same of the buffer. Of a returned part, its octets are said.
 -- What it is to be settled is in Settled. Assumes nothing.
 use Rattle.contracts.specs.Settled.{Settled, settled, Settles, settles}
 use Rattle.read_sequence.proofs.starts_with.Reads as read_sequence_starts_with

@@ -1,7 +1,7 @@
 -- Settled contracts of the check.
--- One theorem for each public function, CRATE-FUNCTION-settled, crate by crate:
+-- One theorem for each public function, CRATE_FUNCTION_settled, crate by crate:
 -- answer, rule_matching, rule_search, rule_tests, rule_response, rule_check.
--- Of a function that writes, CRATE-FUNCTION-buffer says the same of the buffer. Of a returned part, its octets are said.
+-- Of a function that writes, CRATE_FUNCTION_buffer says the same of the buffer. Of a returned part, its octets are said.
 -- What it is to be settled is in Settled. Assumes nothing.
 use Rattle.contracts.specs.Settled.{Settled, settled}
 use Rattle.answer.proofs.empty_card.Reads as answer_empty_card

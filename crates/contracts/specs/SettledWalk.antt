@@ -1,6 +1,6 @@
 -- Settled contracts of the walk. Its functions over a walk are proved by hand, and of such a function no `Learnt` is passed
 -- on: so each contract's own clause is shown to be a plain claim, in every model of the program logic, and the claim settled.
--- ExitClaim, Plain; CRATE-FUNCTION-plain and CRATE-FUNCTION-settled of start and next, of next also walk_next_part and
+-- ExitClaim, Plain; CRATE_FUNCTION_plain and CRATE_FUNCTION_settled of start and next, of next also walk_next_part and
 -- walk_next_buffer; walk_step_from_settled, walk_steps_step_at_settled and walk_steps_part_in_settled, as elsewhere.
 -- What it is to be settled is in Settled. Assumes nothing.
 use Rattle.std.specs.Prelude.{◌≡◌, refl}
@@ -33,7 +33,7 @@ module _ (T : Ended) where
 abbrev pub start_learnt : ExitClaim walk_start.ended
 start_learnt k a z e = z ≡ start_of a.0
 
-pub walk_start_plain : Plain walk_start.ended (λ w. walk_start.clauses w.𝓛 w.𝓜.mem w.𝓡.run) start_learnt
+pub walk_start_plain : Plain walk_start.ended (λ w. walk_start.clauses w.𝓛 w.𝓜.mem w.𝓡.returns) start_learnt
 walk_start_plain w k a g = (refl, λ z e. refl)
 
 pub walk_start_settled : Settled (λ k a. Unit {0}) start_learnt
@@ -43,7 +43,7 @@ walk_start_settled = settled _ _ _ (λ k a. tt) (λ k a z e p. p)
 abbrev pub next_learnt : ExitClaim walk_next.ended
 next_learnt k a z e = (z.says ≡ say_of a.0.now) × (z.part.now ≡ hand_of a.0.now) × (e.0.now ≡ moved_of a.0.now)
 
-pub walk_next_plain : Plain walk_next.ended (λ w. walk_next.clauses w.𝓛 w.𝓜.mem w.𝓡.run) next_learnt
+pub walk_next_plain : Plain walk_next.ended (λ w. walk_next.clauses w.𝓛 w.𝓜.mem w.𝓡.returns) next_learnt
 walk_next_plain w k a g = (refl, λ z e. refl)
 
 pub walk_next_settled : Settles (λ k a. Unit {0}) next_learnt (λ k z e. z.says)

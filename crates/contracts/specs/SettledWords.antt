@@ -1,7 +1,7 @@
 -- Settled contracts of free elements, and the elements that the layout is made of.
--- One theorem for each public function, CRATE-FUNCTION-settled, crate by crate:
+-- One theorem for each public function, CRATE_FUNCTION_settled, crate by crate:
 -- tree, read_content, read_numbers, read_codes.
--- Of a function that writes, CRATE-FUNCTION-buffer says the same of the buffer. Of a returned part, its octets are said.
+-- Of a function that writes, CRATE_FUNCTION_buffer says the same of the buffer. Of a returned part, its octets are said.
 -- What it is to be settled is in Settled. Assumes nothing.
 use Rattle.contracts.specs.Settled.{Settled, settled}
 use Rattle.tree.proofs.read_tree.Reads as tree_read_tree

@@ -1,7 +1,7 @@
 -- The functions that the promises speak of, continued: those that write, the slip reader, a step of a walk, and the desk.
--- write_request, write_slip, read_slip, next and line_for, each with -met and -tells; what next tells is in
+-- write_request, write_slip, read_slip, next and line_for, each with _met and _tells; what next tells is in
 -- SettledWalk.
--- What -met and -tells say, and Tells, are in Functions. The arguments `a` are counted `a.0`, `a.1.0`; a lent buffer is
+-- What _met and _tells say, and Tells, are in Functions. The arguments `a` are counted `a.0`, `a.1.0`; a lent buffer is
 -- among them, and as it is left among the parameters at exit `e`.
 -- Assumes nothing.
 use Rattle.std.specs.Prelude.{◌≡◌, length}
