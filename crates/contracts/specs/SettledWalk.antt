@@ -1,5 +1,5 @@
--- Settled contracts of the walk. Its functions over a walk are proved by hand, and of such a function no `Learnt` is passed
--- on: so each contract's own clause is shown to be a plain claim, in every model of the program logic, and the claim settled.
+-- Settled contracts of the walk. Of a function that makes or moves a walk the contract's own clauses are shown to be a plain
+-- claim, in every model of the program logic, and that claim is settled.
 -- ExitClaim, Plain; CRATE_FUNCTION_plain and CRATE_FUNCTION_settled of start and next, of next also walk_next_part and
 -- walk_next_buffer; walk_step_from_settled, walk_steps_step_at_settled and walk_steps_part_in_settled, as elsewhere.
 -- What it is to be settled is in Settled. Assumes nothing.
