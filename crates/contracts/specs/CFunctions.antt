@@ -1,5 +1,5 @@
--- The functions of include/desk.h, and the two under the check and the program: each meets its contract, and its contract tells
--- what it returns and what it writes.
+-- The functions of desk_c, and the two under the check and the program: each meets its contract, and its contract tells what
+-- it returns and what it writes. Those of include/desk.h call them, and have the same clauses (crate desk_c_c).
 -- desk_request, desk_refusal, desk_misfit, desk_signed, desk_algorithm, desk_signature, desk_certificates, desk_check, desk_slip,
 -- desk_entry, desk_cache_file, desk_cache_ask, slip_for, each with _met and _tells; line_for's are in Writers.
 -- What _met and _tells say, and Tells, are in Functions. In C a slice is a pointer and a length; here it is one of the arguments
