@@ -1,12 +1,11 @@
 -- What the program knows of its answer. What it knows of its reading is in crate desk_intake (ReadLaws).
--- answers_end, answers_more, answers_failed, inside; line_counted, cache_counted.
+-- answers_end, answers_more, answers_failed, inside.
 -- Assumes nothing.
 use Prim.Native.Nat.{ℕ, ◌≤◌}
 use native.Mathlib.Omega.{arith}
-use mathlib.Core.Path.{◌≡◌, sym, ap, subst, ◌∙◌}
+use mathlib.Core.Path.{◌≡◌, ap, subst, ◌∙◌}
 use mathlib.Core.List.{List, []}
 use lib.ListN.{length, get_or, take}
-use lib.Seq.{length-take-le}
 use mir.Syntax.{w8}
 use mir.Val.{Fits}
 use Rattle.octets.specs.Octets.{Octets}
@@ -74,12 +73,3 @@ inside r s line₀ line cache₀ cache e w x = record {
   said = wrote_inside line₀ (hex_line (reply_of s)) r.line line (replied_line s line₀ line cache₀ cache r e w);
   handed = wrote_inside cache₀ (cache_of s) r.cache cache (replied_cache s line₀ line cache₀ cache r e x);
 }
-
--- ---- its octets are in their buffers
-
-module _ (r : Reply) (line cache : List ℕ) (i : Inside r line cache) where
-  pub line_counted : r.line ≡ length (take r.line line)
-  line_counted = sym (length-take-le r.line line i.said)
-
-  pub cache_counted : r.cache ≡ length (take r.cache cache)
-  cache_counted = sym (length-take-le r.cache cache i.handed)
