@@ -1,5 +1,6 @@
 -- The cache by computing: filed into an empty one, a tie, a stale place taken, and each answer and refusal.
 -- cache_computes; card, clock, good, empty, two, one, fill.
+-- The laws stand here, and what is made of them; the definitions in specs/Examples.
 -- Assumes nothing.
 use Rattle.std.specs.Prelude.{ℕ, zero, suc, ◌≡◌, refl, true, false, replicate}
 use mathlib.Core.List.{List, [], ◌∷◌, ◌++◌}

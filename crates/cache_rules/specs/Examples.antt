@@ -1,5 +1,6 @@
 -- The cache by computing: filed into an empty one, a tie, a stale place taken, and each answer and refusal.
 -- cache_computes; card, clock, good, empty, two, one, fill.
+-- The definitions stand here; the laws, and what is made of them, in proofs/Examples.
 -- Assumes nothing.
 use mathlib.Core.List.{flatten}
 use Rattle.freshness.specs.Fresh.{fresh_of}

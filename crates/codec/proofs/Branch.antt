@@ -1,6 +1,7 @@
 -- An element, and then one of two whole lists: the first where the element's value passes a test, the
 -- second where it does not.
 -- branch; branch_then, branch_else, branch_bad.
+-- The laws stand here, and what is made of them; the definitions in specs/Branch.
 -- Assumes nothing.
 use Rattle.std.specs.Prelude.{ℕ, ◌^◌, ◌≤◌, ◌<◌, ◌≡◌, Bool, List, ◌++◌, ◌⊎◌}
 use Rattle.std.proofs.Math.Path.{refl}

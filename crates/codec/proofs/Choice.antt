@@ -1,5 +1,6 @@
 -- One of two elements, by whether the first octet is the first one's.
 -- choice.
+-- The laws stand here, and what is made of them; the definitions in specs/Choice.
 -- Assumes nothing.
 use Rattle.std.specs.Prelude.{ℕ, ◌^◌, ◌≤◌, ◌<◌, ◌≡◌, Bool, List, ◌++◌, ◌⊎◌, length, drop}
 use Rattle.std.proofs.Math.Bool.{true, false}

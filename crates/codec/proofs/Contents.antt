@@ -1,6 +1,7 @@
 -- Contents of primitive elements: octets that pass a test, one string of octets, and a content under
 -- another name. A content read as a whole list refuses its start.
 -- octets_content, fixed_content, mapped_content_to, filled.
+-- The laws stand here, and what is made of them; the definitions in specs/Contents.
 -- Assumes nothing.
 use Rattle.std.specs.Prelude.{ℕ, ◌^◌, ◌≤◌, ◌<◌, ◌≡◌, refl, Bool, true, false, cond, List, length}
 use Rattle.std.proofs.Common.{arith, ◌∙◌}

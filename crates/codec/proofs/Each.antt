@@ -1,6 +1,7 @@
 -- Elements up to the end of a list, no key twice. Each is read by an element codec that knows the
 -- keys before it, so that a repeat is refused where it stands, before anything to its right.
 -- Fresh, NoneTwice, Keyed, each.
+-- The laws stand here, and what is made of them; the definitions in specs/Each.
 -- Assumes nothing.
 use Prim.Native.Nat.{ℕ, zero, suc, ◌-◌, ◌^◌, ◌≤◌, ◌<◌}
 use Rattle.std.proofs.Common.{arith, ◌∙◌, eq-eqb}

@@ -1,5 +1,6 @@
 -- Fields of a fixed width, without a header; and a value that has to pass a test.
 -- chunk (a width, and a content of that width), such (a whole list whose value passes a test).
+-- The laws stand here, and what is made of them; the definitions in specs/Fixed.
 -- Assumes nothing.
 use Rattle.std.specs.Prelude.{ℕ, ◌^◌, ◌≤◌, ◌<◌, ◌≡◌, Bool, List, ◌++◌, take, drop}
 use native.Mathlib.Omega.{arith}

@@ -2,6 +2,7 @@
 -- element, sequence and names around it.
 -- new_to, new_content; keyed_content, keyed_primitive, keyed_tagged, keyed_field, keyed_mapped_ok,
 -- keyed_mapped.
+-- The laws stand here, and what is made of them; the definitions in specs/Keys.
 -- Assumes nothing.
 use Rattle.std.specs.Prelude.{ℕ, ◌<◌, Bool, List, [], ◌∷◌, ◌++◌}
 use Rattle.std.proofs.Common.{arith, ap}

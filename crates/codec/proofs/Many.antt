@@ -1,6 +1,7 @@
 -- Elements up to the end of a list: at least so many and at most so many, or any number. An element
 -- beyond the most is refused at its first octet, whatever it is; too few are refused at the end.
 -- many; all_dec, the reading of any number, whose codec is in Any.
+-- The laws stand here, and what is made of them; the definitions in specs/Many.
 -- Assumes nothing.
 use Prim.Native.Nat.{ℕ, zero, suc, ◌-◌, ◌^◌, ◌≤◌, ◌<◌}
 use Rattle.std.proofs.Common.{arith, ◌∙◌, eqb-true, eq-eqb}

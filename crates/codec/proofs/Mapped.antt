@@ -3,6 +3,7 @@
 -- mapped_to, mapped_element_to (the limits are said in the new names); mapped_ok, mapped_element_ok (they
 -- are those of the value that is named); mapped, mapped_element (the two ways undo one another
 -- everywhere).
+-- The laws stand here, and what is made of them; the definitions in specs/Mapped.
 -- Assumes nothing.
 use Rattle.std.specs.Prelude.{ℕ, ◌^◌, ◌≤◌, ◌<◌, ◌≡◌, List, ◌++◌, length}
 use Rattle.std.proofs.Common.{sym, ◌∙◌}

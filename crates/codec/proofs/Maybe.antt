@@ -1,6 +1,7 @@
 -- Nothing, or one element that fills its holder. An empty list is none and any other is the element:
 -- no tag is looked at. Octets that are left over after the element are refused at the first of them.
 -- maybe; maybe_none, maybe_some. An element that may be missing before others is in Option.
+-- The laws stand here, and what is made of them; the definitions in specs/Maybe.
 -- Assumes nothing.
 use Rattle.std.specs.Prelude.{ℕ, ◌^◌, ◌≤◌, ◌<◌, ◌≡◌, refl, length}
 use Rattle.std.proofs.Common.{arith, ap, ◌∙◌}

@@ -1,6 +1,7 @@
 -- Maybe an element, then a whole list. The element is recognised by its first octet alone; whatever
 -- else stands there belongs to the list that follows, whose forms never begin with that octet.
 -- option.
+-- The laws stand here, and what is made of them; the definitions in specs/Option.
 -- Assumes nothing.
 use Rattle.std.specs.Prelude.{ℕ, ◌^◌, ◌≤◌, ◌<◌, ◌≡◌, Bool, List, ◌++◌, drop}
 use Rattle.std.proofs.Math.Bool.{true, false}

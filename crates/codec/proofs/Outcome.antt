@@ -1,6 +1,7 @@
 -- What is made of a reading: the value under another name, a place further on, what an element's
 -- content gives the element; and what each tells of the reading that it was made of.
 -- Names; further, renamed, called, on_got, attach.
+-- The laws stand here, and what is made of them; the definitions in specs/Outcome.
 -- Assumes nothing.
 use Rattle.std.specs.Prelude.{ℕ, ◌+◌, ◌≤◌, ◌≡◌, refl, Bool, true, false, cond, List, length}
 use Rattle.std.proofs.Common.{arith, ap}

@@ -2,6 +2,7 @@
 -- content, and that an element's octets are found and cut so. What is small enough is made of parts
 -- that are.
 -- Part, part_of, form_found, form_content; small_left, small_right, small_content.
+-- The laws stand here, and what is made of them; the definitions in specs/PartLaws.
 -- Assumes nothing.
 use Rattle.std.specs.Prelude.{ℕ, ◌+◌, ◌^◌, ◌<◌, ◌≡◌, true, List, ◌++◌, length, take, drop}
 use Rattle.std.proofs.Common.{arith, sym, ap, ◌∙◌, append_assoc, length-append, length-drop, take-append-drop, drop-drop, drop_at, length-take-le}

@@ -1,6 +1,7 @@
 -- One after another: nothing more, an element and then a whole list, an element that fills its
 -- holder. Octets that are left over are refused at the first of them.
 -- end, field, only.
+-- The laws stand here, and what is made of them; the definitions in specs/Sequence.
 -- Assumes nothing.
 use Rattle.std.specs.Prelude.{ℕ, ◌^◌, ◌≤◌, ◌<◌, ◌≡◌, refl, length, drop}
 use Rattle.std.proofs.Common.{arith, ◌∙◌, length-drop}

@@ -1,6 +1,7 @@
 -- The octet that a form begins with. An element that may be missing, and one of two elements, are
 -- recognised by it alone.
 -- starts_with, Starts, Other, Apart. That the combinators begin so is in StartsLaws.
+-- The laws stand here, and what is made of them; the definitions in specs/Starts.
 -- Assumes nothing.
 use Rattle.std.specs.Prelude.{ℕ, ◌<◌, ◌≡◌, refl, true, false, List, [], ◌∷◌, ◌++◌, eqb, length, get_or}
 use Rattle.std.proofs.Common.{arith}

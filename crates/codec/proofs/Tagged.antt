@@ -2,6 +2,7 @@
 -- then the content: a wrong tag refuses the element's own place, 0.
 -- tagged (a place in the content is a place in the element), primitive (a content that is not read
 -- refuses the element's own place).
+-- The laws stand here, and what is made of them; the definitions in specs/Tagged.
 -- Assumes nothing.
 use Rattle.std.specs.Prelude.{ℕ, ◌+◌, ◌^◌, ◌≤◌, ◌<◌, ◌≡◌, Bool, List, ◌++◌, eqb, take}
 use Rattle.std.proofs.Common.{arith, sym, ap}

@@ -1,6 +1,7 @@
 -- Free elements, kept as trees: an element is primitive or holds a run; a run is nothing, or an
 -- element followed by a run. Their depth, their octets and their limits.
 -- Tree, Run, depth, tree_enc, TreeOk, Upto. Their reading is in TreeRead.
+-- The laws stand here, and what is made of them; the definitions in specs/Tree.
 -- Assumes nothing.
 use Rattle.std.specs.Prelude.{ℕ, ◌^◌, ◌≤◌, ◌<◌, ◌≡◌, refl, Bool, true, false, cond, List, [], ◌∷◌, ◌++◌, leb, length}
 use Rattle.std.proofs.Common.{arith, ap, leb-true, leb-false}

@@ -1,6 +1,7 @@
 -- The reading of free elements, at most d deep: an element beyond is refused at its first octet,
 -- whatever it is.
 -- tree. The trees, their octets and their limits are in Tree; one with a wanted tag in TreeTagged.
+-- The laws stand here, and what is made of them; the definitions in specs/TreeRead.
 -- Assumes nothing.
 use Rattle.std.specs.Prelude.{ℕ, zero, suc, ◌+◌, ◌^◌, ◌≤◌, ◌<◌, ◌≡◌, Bool, drop}
 use native.Mathlib.Omega.{arith}

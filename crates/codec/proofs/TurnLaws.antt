@@ -5,6 +5,7 @@
 -- where the loop is. turn_start, turn_end, turn_over, turn_bad, turn_next: its turns. turn_place,
 -- turn_inside, turn_sum, turn_less: that a place is in the list, and that less is left.
 -- The readings are in Many and Any, the answers in Views.
+-- The laws stand here, and what is made of them; the definitions in specs/TurnLaws.
 -- Assumes nothing.
 use Prim.Native.Nat.{ℕ, zero, suc, ◌+◌, ◌-◌, ◌^◌, ◌≤◌, ◌<◌}
 use Rattle.std.proofs.Common.{arith, sym, ap, ◌∙◌, length-drop, drop_of_length-le, drop-drop}

@@ -1,5 +1,6 @@
 -- One of two elements, by whether the first octet is the first one's.
 -- choice.
+-- The definitions stand here; the laws, and what is made of them, in proofs/Choice.
 -- Assumes nothing.
 use Rattle.std.specs.Prelude.{ℕ, Bool, cond, List, ◌⊎◌}
 use Rattle.std.proofs.Math.Logic.{inl, inr}

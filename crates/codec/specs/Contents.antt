@@ -1,6 +1,7 @@
 -- Contents of primitive elements: octets that pass a test, one string of octets, and a content under
 -- another name. A content read as a whole list refuses its start.
 -- octets_content, fixed_content, mapped_content_to, filled.
+-- The definitions stand here; the laws, and what is made of them, in proofs/Contents.
 -- Assumes nothing.
 use Rattle.std.specs.Prelude.{ℕ, Bool, cond, List}
 use Rattle.std.proofs.Math.Option.{Option, none, some}

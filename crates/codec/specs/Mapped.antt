@@ -3,6 +3,7 @@
 -- mapped_to, mapped_element_to (the limits are said in the new names); mapped_ok, mapped_element_ok (they
 -- are those of the value that is named); mapped, mapped_element (the two ways undo one another
 -- everywhere).
+-- The definitions stand here; the laws, and what is made of them, in proofs/Mapped.
 -- Assumes nothing.
 use Rattle.std.specs.Prelude.{ℕ, List}
 use Rattle.codec.specs.Codec.{Read, Got}

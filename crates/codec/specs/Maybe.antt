@@ -1,6 +1,7 @@
 -- Nothing, or one element that fills its holder. An empty list is none and any other is the element:
 -- no tag is looked at. Octets that are left over after the element are refused at the first of them.
 -- maybe; maybe_none, maybe_some. An element that may be missing before others is in Option.
+-- The definitions stand here; the laws, and what is made of them, in proofs/Maybe.
 -- Assumes nothing.
 use Rattle.std.specs.Prelude.{ℕ}
 use mathlib.Core.List.{List, [], ◌∷◌}

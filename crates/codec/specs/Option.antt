@@ -1,6 +1,7 @@
 -- Maybe an element, then a whole list. The element is recognised by its first octet alone; whatever
 -- else stands there belongs to the list that follows, whose forms never begin with that octet.
 -- option.
+-- The definitions stand here; the laws, and what is made of them, in proofs/Option.
 -- Assumes nothing.
 use Rattle.std.specs.Prelude.{ℕ, Bool, cond, List, [], drop}
 use Rattle.std.proofs.Math.Option.{Option, none, some}

@@ -1,6 +1,7 @@
 -- What is made of a reading: the value under another name, a place further on, what an element's
 -- content gives the element; and what each tells of the reading that it was made of.
 -- Names; further, renamed, called, on_got, attach.
+-- The definitions stand here; the laws, and what is made of them, in proofs/Outcome.
 -- Assumes nothing.
 use Rattle.std.specs.Prelude.{ℕ, ◌+◌, ◌≡◌}
 use Rattle.codec.specs.Codec.{Read, read, broke, Got, got, bad}

@@ -2,6 +2,7 @@
 -- content, and that an element's octets are found and cut so. What is small enough is made of parts
 -- that are.
 -- Part, part_of, form_found, form_content; small_left, small_right, small_content.
+-- The definitions stand here; the laws, and what is made of them, in proofs/PartLaws.
 -- Assumes nothing.
 use Rattle.std.specs.Prelude.{ℕ, ◌+◌, ◌^◌, ◌<◌, ◌≡◌, true, List, ◌++◌, length, drop}
 use Rattle.octets.specs.Octets.{Octets}

@@ -1,6 +1,7 @@
 -- One after another: nothing more, an element and then a whole list, an element that fills its
 -- holder. Octets that are left over are refused at the first of them.
 -- end, field, only.
+-- The definitions stand here; the laws, and what is made of them, in proofs/Sequence.
 -- Assumes nothing.
 use Rattle.std.specs.Prelude.{ℕ, drop}
 use mathlib.Core.List.{List, [], ◌∷◌}

@@ -1,6 +1,7 @@
 -- The octet that a form begins with. An element that may be missing, and one of two elements, are
 -- recognised by it alone.
 -- starts_with, Starts, Other, Apart. That the combinators begin so is in StartsLaws.
+-- The definitions stand here; the laws, and what is made of them, in proofs/Starts.
 -- Assumes nothing.
 use Rattle.std.specs.Prelude.{ℕ, ◌≡◌, Bool, true, false, List, [], ◌∷◌, eqb}
 use Rattle.codec.specs.Codec.{Whole, Element}

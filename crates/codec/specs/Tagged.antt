@@ -2,6 +2,7 @@
 -- then the content: a wrong tag refuses the element's own place, 0.
 -- tagged (a place in the content is a place in the element), primitive (a content that is not read
 -- refuses the element's own place).
+-- The definitions stand here; the laws, and what is made of them, in proofs/Tagged.
 -- Assumes nothing.
 use Rattle.std.specs.Prelude.{ℕ, ◌+◌, List, eqb, take}
 use Rattle.std.proofs.Math.Bool.{cond}

@@ -1,6 +1,7 @@
 -- Free elements, kept as trees: an element is primitive or holds a run; a run is nothing, or an
 -- element followed by a run. Their depth, their octets and their limits.
 -- Tree, Run, depth, tree_enc, TreeOk, Upto. Their reading is in TreeRead.
+-- The definitions stand here; the laws, and what is made of them, in proofs/Tree.
 -- Assumes nothing.
 use Rattle.std.specs.Prelude.{ℕ, suc, ◌≤◌, ◌<◌, ◌≡◌, Bool, true, false, cond, List, [], ◌∷◌, ◌++◌, leb}
 use Rattle.octets.specs.Octets.{Octets}

@@ -1,6 +1,7 @@
 -- The reading of free elements, at most d deep: an element beyond is refused at its first octet,
 -- whatever it is.
 -- tree. The trees, their octets and their limits are in Tree; one with a wanted tag in TreeTagged.
+-- The definitions stand here; the laws, and what is made of them, in proofs/TreeRead.
 -- Assumes nothing.
 use Rattle.std.specs.Prelude.{ℕ, zero, suc, ◌+◌, ◌^◌, ◌≤◌, ◌<◌, ◌≡◌, drop}
 use Rattle.std.proofs.Math.Bool.{cond}

@@ -1,6 +1,7 @@
 -- A free element whose own tag is wanted. The header counts first, then the tag, then what the
 -- element holds: a wrong tag refuses the element's own place, 0.
 -- tree_tagged. Any free element is in TreeRead.
+-- The definitions stand here; the laws, and what is made of them, in proofs/TreeTagged.
 -- Assumes nothing.
 use Rattle.std.specs.Prelude.{ℕ, ◌≡◌, List, eqb}
 use Rattle.std.proofs.Math.Bool.{cond}

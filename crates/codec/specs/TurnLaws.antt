@@ -5,6 +5,7 @@
 -- where the loop is. turn_start, turn_end, turn_over, turn_bad, turn_next: its turns. turn_place,
 -- turn_inside, turn_sum, turn_less: that a place is in the list, and that less is left.
 -- The readings are in Many and Any, the answers in Views.
+-- The definitions stand here; the laws, and what is made of them, in proofs/TurnLaws.
 -- Assumes nothing.
 use Prim.Native.Nat.{ℕ, ◌+◌, ◌≤◌}
 use Rattle.std.specs.Prelude.{◌≡◌}

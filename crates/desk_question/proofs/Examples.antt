@@ -1,6 +1,7 @@
 -- The desk's case by computing, from the octets: the case of document 01's program, and what must be refused.
 -- read; question, case, case_asked, case_desk, case_alone; no_input, other_kind, fill_broken, name_long, longer;
 -- case_line, no_input_line.
+-- The laws stand here, and what is made of them; the definitions in specs/Examples.
 -- Assumes nothing.
 use Rattle.std.specs.Prelude.{ℕ, ◌≡◌, true, List, [], ◌∷◌, ◌++◌, replicate}
 use Rattle.std.proofs.Math.Path.{refl}

@@ -2,6 +2,7 @@
 -- refusals by their numbers.
 -- only_limits; said_fits, refusal_fits; answer_fits, fits_slip.
 -- The slip rules are in crate slip, the limits in crate layout. Assumes nothing.
+-- The laws stand here, and what is made of them; the definitions in specs/FitsLaws.
 use Rattle.std.specs.Prelude.{ℕ, ◌≤◌, ◌≡◌, refl, Bool, true, false, cond, List, [], ◌∷◌, eqb}
 use Rattle.std.proofs.Common.{arith, ⊎_elim, ap, ◌∙◌, eqb-true, eq-eqb, ne_eqb, le-leb}
 use Rattle.std.proofs.Math.Option.{Option, none, some}
@@ -26,10 +27,11 @@ use Rattle.rules.specs.Ruling.{reason_in, said, answer_of}
 use Rattle.rules.specs.Accepted.{Accepted, IsRefusal}
 use Rattle.rules.proofs.RulingLaws.{accepted_answer}
 use Rattle.rules.proofs.RefusalLaws.{answer_either}
-use Rattle.slip.specs.Rules.{times_ok, reason_fits, error_ok, status_fits, number_ok, verdict_ok}
+use Rattle.slip.specs.Rules.{reason_fits, error_ok, status_fits, number_ok, verdict_ok}
 use Rattle.slip.specs.Table.{row_in, row_of}
 use Rattle.slip.specs.Slip.{card_fits, slip_ok}
 use Rattle.desk_question.specs.Asked.{question_in, name_in, question_ok, asked}
+use Rattle.desk_question.specs.FitsLaws.{times_fit_lem}
 use Rattle.desk_question.proofs.AskedLaws.{asked_broken, asked_kept}
 
 -- ---- the limits of the only entry for a card
@@ -51,10 +53,6 @@ only_limits q name s b e next o a =
     k.0
 
 -- ---- what an entry says keeps the rules of a verdict
-
-times_fit_lem : (this next : ℕ) → this ≤ next → TimeOk next → times_ok this next ≡ true
-unfolding times_ok
-times_fit_lem this next h k = rw (le-leb this next h) (le-leb next last_second k)
 
 reason_fits_lem : (r : Option ℕ) → OptionOk ReasonOk r → reason_fits (reason_in r) ≡ true
 unfolding reason_fits

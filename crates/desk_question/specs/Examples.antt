@@ -1,6 +1,7 @@
 -- The desk's case by computing, from the octets: the case of document 01's program, and what must be refused.
 -- read; question, case, case_asked, case_desk, case_alone; no_input, other_kind, fill_broken, name_long, longer;
 -- case_line, no_input_line.
+-- The definitions stand here; the laws, and what is made of them, in proofs/Examples.
 -- Assumes nothing.
 use Rattle.std.specs.Prelude.{ℕ, List, [], ◌∷◌, ◌++◌, replicate}
 use Rattle.octets.specs.Buffer.{room_for}

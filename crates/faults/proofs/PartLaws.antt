@@ -1,5 +1,6 @@
 -- What was read of a list was read of its parts, and they stand where their headers lead.
 -- tagged_content, rest_of, tag_of; field_of, only_of, Branched, branch_of_lem; filling, held.
+-- The laws stand here, and what is made of them; the definitions in specs/PartLaws.
 -- Assumes nothing.
 use Rattle.std.specs.Prelude.{ℕ, ◌+◌, ◌≡◌, Bool, false, List, ◌⊎◌, eqb, take}
 use Rattle.std.proofs.Common.{arith, sym, ◌∙◌, inl, inr}

@@ -1,6 +1,7 @@
 -- What a reading and a DER form compute with, in four lists: a proof that says `unfolding opened` opens
 -- all that they name. For examples only; they have no other meaning.
 -- opened: below, combined, contents, page.
+-- The laws stand here, and what is made of them; the definitions in specs/Opened.
 -- Assumes nothing.
 use Rattle.layout.specs.Words.{time_read, serial_read, between, bits_read, single_read, reason_ok, status_ok}
 use Rattle.layout.proofs.ElementKinds.{free, free_sequence, time, serial, oid, hash}

@@ -2,6 +2,7 @@
 -- another type end there, and with another type the inner octets are not looked at; only then is the
 -- basic response judged.
 -- basic_type, der, Outcome, reading. The laws are in Theorem.
+-- The laws stand here, and what is made of them; the definitions in specs/Read.
 -- Assumes nothing.
 use Rattle.std.specs.Prelude.{ℕ, ◌-◌, cond, List, length}
 use Rattle.octets.specs.Same.{same_of}

@@ -1,6 +1,7 @@
 -- The contents of the layout's primitive elements: what each may be, and as what it is read.
 -- time_content and serial_content (in Numbers), oid_content, bits, single, empty, yes, nought; the tests between, anything,
 -- reason_ok, status_ok.
+-- The laws stand here, and what is made of them; the definitions in specs/Words.
 -- Assumes nothing.
 use Rattle.std.specs.Prelude.{ℕ, ◌<◌, ◌≡◌, refl, Bool, true, eqb, length}
 use Rattle.std.proofs.Common.{arith, lit<, eqb-true}

@@ -3,6 +3,7 @@
 -- unauthorized, m10, other_type_lem, small_read, small_der, version_read, version_der, version_1.
 -- A response with every optional part is in FullExample, one that a document prints in Sample; what does
 -- not fit piece by piece is in Refusals.
+-- The definitions stand here; the laws, and what is made of them, in proofs/Examples.
 -- Assumes nothing.
 use Rattle.std.specs.Prelude.{ℕ, List, [], ◌∷◌, ◌++◌}
 use Rattle.std.proofs.Math.Option.{none}

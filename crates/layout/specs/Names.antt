@@ -1,6 +1,7 @@
 -- The fields of the layout under their names: each codec of pairs and choices, as a codec of a record
 -- or type of Reading. Nothing is read or written another way.
 -- algorithm, cert, status, extension, entry, responder, SignedFields, signed, basic; Envelope, enveloped.
+-- The definitions stand here; the laws, and what is made of them, in proofs/Names.
 -- Assumes nothing.
 use Rattle.std.specs.Prelude.{ℕ, refl, Bool, true, false, List, ◌⊎◌, eqb}
 use Rattle.std.proofs.Common.{inl, inr}

@@ -1,6 +1,7 @@
 -- Contents that are read as numbers: a time as seconds since 1970, a serial as a whole number. That they
 -- are rests on the laws of calendar and content.
 -- time_read, time_content; serial_read, serial_content. The other contents are in Words.
+-- The definitions stand here; the laws, and what is made of them, in proofs/Numbers.
 -- Assumes nothing.
 use Rattle.std.specs.Prelude.{ℕ, cond, List}
 use Rattle.std.proofs.Math.Option.{Option, none, some}

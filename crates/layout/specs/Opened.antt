@@ -1,6 +1,7 @@
 -- What a reading and a DER form compute with, in four lists: a proof that says `unfolding opened` opens
 -- all that they name. For examples only; they have no other meaning.
 -- opened: below, combined, contents, page.
+-- The definitions stand here; the laws, and what is made of them, in proofs/Opened.
 -- Assumes nothing.
 use Rattle.std.specs.Int.Count.{count_leading_zeros}
 use Rattle.octets.specs.Number.{value_of, octets_of}

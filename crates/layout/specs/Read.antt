@@ -2,6 +2,7 @@
 -- another type end there, and with another type the inner octets are not looked at; only then is the
 -- basic response judged.
 -- basic_type, der, Outcome, reading. The laws are in Theorem.
+-- The definitions stand here; the laws, and what is made of them, in proofs/Read.
 -- Assumes nothing.
 use Rattle.std.specs.Prelude.{ℕ, ◌+◌, List, [], ◌∷◌}
 use Rattle.codec.specs.Codec.{Read, read, broke}

@@ -2,6 +2,7 @@
 -- a signed part, and a signed part that begins with A0 and not with these does not fit.
 -- version_octets; version_form_lem, version_written, version_begins, version_first, version_only, version_taken.
 -- Where another number is refused is in OtherVersionLaws.
+-- The definitions stand here; the laws, and what is made of them, in proofs/VersionLaws.
 -- Assumes nothing.
 use Rattle.std.specs.Prelude.{ℕ, List, [], ◌∷◌}
 

@@ -1,6 +1,7 @@
 -- The contents of the layout's primitive elements: what each may be, and as what it is read.
 -- time_content and serial_content (in Numbers), oid_content, bits, single, empty, yes, nought; the tests between, anything,
 -- reason_ok, status_ok.
+-- The definitions stand here; the laws, and what is made of them, in proofs/Words.
 -- Assumes nothing.
 use Rattle.std.specs.Prelude.{ℕ, ◌<◌, Bool, true, false, cond, leb, eqb, length}
 use Rattle.std.proofs.Common.{lit<}

@@ -1,5 +1,6 @@
 -- What was read of an envelope stands where its headers lead.
 -- Stands, envelope_stands.
+-- The laws stand here, and what is made of them; the definitions in specs/EnvelopeLaws.
 -- Assumes nothing.
 use Rattle.std.specs.Prelude.{ℕ, ◌≡◌, Bool, true, false, List, drop}
 use Rattle.std.proofs.Common.{sym, ap, ◌∙◌, inl, inr}

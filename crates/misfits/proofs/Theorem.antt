@@ -1,6 +1,7 @@
 -- The place of a response that does not fit is the least of its misfits, and it fits exactly where it
 -- has none.
 -- fit_read; reading_first, misfits_ascend; place_least, fits_none.
+-- The laws stand here, and what is made of them; the definitions in specs/Theorem.
 -- Assumes nothing.
 use Rattle.std.specs.Prelude.{ℕ, ◌+◌, ◌-◌, ◌≡◌, refl, Bool, true, false, cond, List, [], ◌∷◌, ◌↔◌, length}
 use Rattle.std.proofs.Common.{arith, sym, ap, ◌∙◌}

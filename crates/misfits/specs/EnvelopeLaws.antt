@@ -1,5 +1,6 @@
 -- What was read of an envelope stands where its headers lead.
 -- Stands, envelope_stands.
+-- The definitions stand here; the laws, and what is made of them, in proofs/EnvelopeLaws.
 -- Assumes nothing.
 use Rattle.std.specs.Prelude.{ℕ, ◌≡◌, true, false, List}
 use Rattle.layout.specs.Names.{Envelope, failure, success}

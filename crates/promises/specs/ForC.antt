@@ -4,9 +4,10 @@
 -- A premise of the form `n ≡ ..` says what a function returns or leaves, as its contract tells (contracts: CFunctions); the claims
 -- behind it are of the n returned and the places `from` and `len`. `Octets s` is what the type of a lent slice says of it. The
 -- definitions under those premises are in desk_c: Places.
+-- The definitions stand here; the laws, and what is made of them, in proofs/ForC.
 -- Assumes nothing.
-use Rattle.std.specs.Prelude.{ℕ, ◌+◌, ◌≤◌, ◌<◌, ◌⊎◌, ◌↔◌, ◌≡◌, refl, List, [], ◌∷◌, length, take, drop}
-use Rattle.std.proofs.Common.{arith, ⊎_elim, ◌∙◌}
+use Rattle.std.specs.Prelude.{ℕ, ◌+◌, ◌≤◌, ◌<◌, ◌⊎◌, ◌≡◌, refl, List, [], length, take, drop}
+use Rattle.std.proofs.Common.{⊎_elim, ◌∙◌}
 use Rattle.std.proofs.Math.Path.{ap}
 use Rattle.std.proofs.Math.Option.{none, some}
 use Rattle.octets.specs.Octets.{Octets}
@@ -15,15 +16,12 @@ use Rattle.codec.specs.Many.{forms}
 use Rattle.layout.specs.Reading.{Basic, basic}
 use Rattle.layout.proofs.ElementKinds.{free_sequence}
 use Rattle.layout.proofs.Format.{algorithm_identifier, single_response}
-use Rattle.layout.specs.Limits.{FailureOk}
 use Rattle.layout.specs.Read.{reads}
 use Rattle.layout.proofs.Read.{reading}
 use Rattle.read_response.specs.Parts.{judged_of}
 use Rattle.read_response.specs.Refusals.{refusal_of}
 use Rattle.read_response.specs.declared.Parts.{Parts}
 use Rattle.read_response.specs.declared.Span.{Span}
-use Rattle.read_response.specs.declared.Judged.{Judged}
-use Rattle.read_response.specs.declared.Judged.TheVariants as judged
 use Rattle.show.proofs.PartsLaws as parts
 use Rattle.show.specs.Shown.{octets_in, signed_of, signature_of, entry_of}
 use Rattle.show.specs.declared.Entry.{Entry}
@@ -32,53 +30,12 @@ use Rattle.walk_rules.specs.Step.{part_in, part_of}
 use Rattle.desk_c.specs.Places.{signed_span, algorithm_in, signature_span, certificates_in, entry_number, entry_span}
 use Rattle.desk_c.specs.PlacesLaws as places
 use Rattle.desk_c.specs.EntryLaws as entries
-use Rattle.promises.specs.OneReading.{basic_exactly, error_exactly}
-use Rattle.promises.specs.Envelopes.{IsError, IsOtherType, IsBasic, other_type_exactly, unfit_exactly, too_long_exactly}
 
 -- from a place on, so many octets of a response are these, and end inside it
 abbrev pub Shows : List ℕ → ℕ → ℕ → List ℕ → Type 0
 Shows s from len x = (take len (drop from s) ≡ x) × (from + len ≤ length s)
 
--- the number of a refusal says which case it is
-number_says : (j : Judged)
-    → ((refusal_of j).number ≡ 0 → (t : Parts) × (j ≡ judged.Basic t))
-    × ((refusal_of j).number ≡ 2 → j ≡ judged.TooLong)
-    × ((refusal_of j).number ≡ 3 → (p : ℕ) × (j ≡ judged.Unfit p))
-    × ((refusal_of j).number ≡ 4 → j ≡ judged.Failed (refusal_of j).status)
-    × ((refusal_of j).number ≡ 5 → j ≡ judged.OtherType)
-    × (((refusal_of j).number ≡ 4 → ⊥) → (refusal_of j).status ≡ 0)
-unfolding refusal_of
-number_says (judged.Basic t) = (λ e. (t, refl), λ e. absurd (omega arith), λ e. absurd (omega arith), λ e. absurd (omega arith), λ e. absurd (omega arith), λ e. refl)
-number_says judged.TooLong = (λ e. absurd (omega arith), λ e. refl, λ e. absurd (omega arith), λ e. absurd (omega arith), λ e. absurd (omega arith), λ e. refl)
-number_says (judged.Unfit p) = (λ e. absurd (omega arith), λ e. absurd (omega arith), λ e. (p, refl), λ e. absurd (omega arith), λ e. absurd (omega arith), λ e. refl)
-number_says (judged.Failed n) = (λ e. absurd (omega arith), λ e. absurd (omega arith), λ e. absurd (omega arith), λ e. refl, λ e. absurd (omega arith), λ e. absurd (e refl))
-number_says judged.OtherType = (λ e. absurd (omega arith), λ e. absurd (omega arith), λ e. absurd (omega arith), λ e. absurd (omega arith), λ e. refl, λ e. refl)
-
 module _ (s : List ℕ) (o : Octets s) where
-  -- desk_refusal: 0 exactly for a basic response within the limits; 2 where it has more than 16,384 octets; 3 where it is none
-  -- of the three kinds; 4, and its status, for an error response; 5 for a response of another type; no status but with 4
-  pub refusal_answers : (n status : ℕ) → n ≡ (refusal_of (judged_of s)).number → status ≡ (refusal_of (judged_of s)).status
-      → (n ≡ 0 ↔ (length s ≤ 16384) × IsBasic s)
-      × (n ≡ 2 ↔ 16384 < length s)
-      × (n ≡ 3 ↔ (length s ≤ 16384) × (IsError s → ⊥) × (IsOtherType s → ⊥) × (IsBasic s → ⊥))
-      × (n ≡ 4 ↔ FailureOk status × (s ≡ 0x30 ∷ 0x03 ∷ 0x0a ∷ 0x01 ∷ status ∷ []))
-      × (n ≡ 5 ↔ (length s ≤ 16384) × IsOtherType s)
-      × ((n ≡ 4 → ⊥) → status ≡ 0)
-  unfolding refusal_of
-  refusal_answers n status i j =
-      let (to0, to2, to3, to4, to5, else) = number_says (judged_of s) in
-      rw (i, j) (
-        (
-          λ e. let (b, w, z, f) = (basic_exactly s o).0 (to0 e) in (rw f z, (b, w, f)),
-          λ (le, (b, w, f)). let (t, e) = (basic_exactly s o).1 (b, w, rw (← f) le, f) in ap (λ (x : Judged). (refusal_of x).number) e,
-        ),
-        (λ e. (too_long_exactly s).0 (to2 e), λ h. ap (λ (x : Judged). (refusal_of x).number) ((too_long_exactly s).1 h)),
-        (λ e. (unfit_exactly s o).0 (to3 e), λ h. ap (λ (x : Judged). (refusal_of x).number) ((unfit_exactly s o).1 h).1),
-        (λ e. (error_exactly s _ o).0 (to4 e), λ h. ap (λ (x : Judged). (refusal_of x).number) ((error_exactly s _ o).1 h)),
-        (λ e. (other_type_exactly s o).0 (to5 e), λ h. ap (λ (x : Judged). (refusal_of x).number) ((other_type_exactly s o).1 h)),
-        else,
-      )
-
   -- desk_signed, desk_algorithm, desk_signature and desk_certificates return what desk_refusal does. With a number but 0 the
   -- part is empty, at 0
   pub nothing_shown : ((refusal_of (judged_of s)).number ≡ 0 → ⊥)

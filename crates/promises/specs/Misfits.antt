@@ -5,10 +5,10 @@
 -- `misfits s` is every place of a response whose element itself does not fit (misfits: Misfits), by the layout as data (misfits:
 -- Described) and the places of each kind of element and row (faults: Description, Faults); none of these names a reader.
 -- `Least p l` says that p is one of l and none of l is before it (faults: Order).
+-- The definitions stand here; the laws, and what is made of them, in proofs/Misfits.
 -- Assumes nothing.
-use Rattle.std.specs.Prelude.{ℕ, ◌≤◌, ◌⊎◌, ◌↔◌, ◌≡◌, refl, cond, List, [], length}
-use Rattle.std.proofs.Common.{arith, inl, inr, ⊎_elim, ap}
-use Rattle.octets.specs.Octets.{Octets}
+use Rattle.std.specs.Prelude.{ℕ, ◌≤◌, ◌↔◌, ◌≡◌, refl, cond, List, [], length}
+use Rattle.std.proofs.Common.{ap}
 use Rattle.element.specs.Header.{header_of}
 use Rattle.element.specs.declared.Header.TheVariants as header
 use Rattle.layout.specs.Read.{unfit}
@@ -24,18 +24,12 @@ use Rattle.answer.specs.declared.Verdict.TheVariants.{Refused}
 use Rattle.answer.specs.declared.Place.{Place}
 use Rattle.answer.specs.declared.Place.TheVariants.{At, Absent}
 use Rattle.answer.specs.declared.Answer.{Answer}
-use Rattle.read_response.specs.Parts.{judged_of}
-use Rattle.read_response.proofs.OutcomeLaws.{unfit_judged, long_judged}
-use Rattle.read_response.specs.declared.Judged.{Judged}
-use Rattle.read_response.specs.declared.Judged.TheVariants as judged
 use Rattle.rules.specs.declared.Question.{Question}
 use Rattle.rules.specs.Accepted.{InRange}
 use Rattle.rules.proofs.AcceptedLaws.{range_exactly}
 use Rattle.rules.specs.Ruling.{answer_of}
 use Rattle.rules.proofs.RefusalLaws.{refusal_whole}
 use Rattle.rules.proofs.EarlyLaws.{three_exactly, place_exactly}
-use Rattle.promises.specs.OneReading.{basic_exactly, error_exactly}
-use Rattle.promises.specs.Envelopes.{IsError, IsOtherType, IsBasic, other_type_exactly, unfit_exactly}
 
 -- ── a response's misfits ──
 
@@ -55,22 +49,6 @@ module _ (s : List ℕ) where
   -- the first of them lies in the response, or at its end
   pub place_inside : (p : ℕ) → Least p (misfits s) → p ≤ length s
   place_inside p m = place_within_lem s p ((place_least s p).1 m)
-
-  -- a response of at most 16,384 octets fits, as an error response, one of another type or a basic one, exactly if there are none
-  pub fits_exactly : Octets s → length s ≤ 16384 → misfits s ≡ [] ↔ IsError s ⊎ (IsOtherType s ⊎ IsBasic s)
-  fits_exactly o le = (λ e. go (judged_of s) refl (no_misfit.1 e), λ h. no_misfit.0 (λ p r. none p r h))
-    where
-      go : (j : Judged) → judged_of s ≡ j → ((p : ℕ) → reading s ≡ unfit p → ⊥) → IsError s ⊎ (IsOtherType s ⊎ IsBasic s)
-      go (judged.Basic t) i f = let (b, w, z, e) = (basic_exactly s o).0 (t, i) in inr (inr (b, w, e))
-      go judged.TooLong i f = absurd (omega (arith, (long_judged s).0 i))
-      go (judged.Unfit p) i f = absurd (f p ((unfit_judged s p).0 i).1)
-      go (judged.Failed n) i f = let (w, e) = (error_exactly s n o).0 i in inl (n, w, e)
-      go judged.OtherType i f = inr (inl ((other_type_exactly s o).0 i).1)
-
-      none : (p : ℕ) → reading s ≡ unfit p → IsError s ⊎ (IsOtherType s ⊎ IsBasic s) → ⊥
-      none p r h =
-          let (l, a, b, c) = (unfit_exactly s o).0 (p, (unfit_judged s p).1 (le, r)) in
-          ⊎_elim a (λ x. ⊎_elim b c x) h
 
 -- ── the check ──
 module _ (q : Question) (name s : List ℕ) where

@@ -18,7 +18,7 @@ use Rattle.layout.specs.Reading.{Signed, with_version, Basic, basic}
 use Rattle.layout.proofs.Format.{version, signed_body, response_data}
 use Rattle.layout.specs.Limits.{SignedOk, BasicOk}
 use Rattle.layout.proofs.LimitsLaws.{signed_limits}
-use Rattle.layout.specs.Read.{reads, unfit}
+use Rattle.layout.specs.Read.{reads}
 use Rattle.layout.proofs.Read.{der, reading}
 use Rattle.layout.proofs.Theorem.{sound, complete}
 use Rattle.layout.proofs.VersionLaws as laws
@@ -112,13 +112,10 @@ module _ (w z x y s : List ℕ) (other : w ≡ 0x00 ∷ [] → ⊥) (o : Octets 
   abbrev place : ℕ
   place = length s - length (form_of 0x02 w ++ (z ++ (x ++ y)))
 
-  unfits : reading s ≡ unfit place
-  unfits = others.another_place w z x y other s o le (same ∙ sym (success_form _ _))
-
   -- does not fit, and the place is that INTEGER
   pub another_version : (judged_of s ≡ judged.Unfit place) × (drop place s ≡ form_of 0x02 w ++ (z ++ (x ++ y)))
-  another_version = ((unfit_judged s place).1 (le, unfits), others.another_stands w z x y other s (same ∙ sym (success_form _ _)))
+  another_version = ((unfit_judged s place).1 (le, others.another_place w z x y other s o le (same ∙ sym (success_form _ _))), others.another_stands w z x y other s (same ∙ sym (success_form _ _)))
 
   -- so a question in range gets 3, with that place
   pub another_refused : (q : Question) (name : List ℕ) → InRange q name → answer_of q name s ≡ refused_at 3 0 (At place)
-  another_refused q name range = (three_exactly q name s ((range_exactly q name).1 range) place).1 (le, unfits)
+  another_refused q name range = (three_exactly q name s ((range_exactly q name).1 range) place).1 (le, others.another_place w z x y other s o le (same ∙ sym (success_form _ _)))

@@ -2,6 +2,7 @@
 -- as one is judged so.
 -- Reads, judged_basic, basic_judged.
 -- The definitions are in Parts. Assumes nothing.
+-- The laws stand here, and what is made of them; the definitions in specs/JudgedLaws.
 use Rattle.std.specs.Prelude.{ℕ, ◌≤◌, ◌≡◌, refl, Bool, true, false, cond, List, ltb, length}
 use Rattle.std.proofs.Common.{ltb-false, le-ltb}
 use Rattle.layout.specs.Reading.{Basic, failed, basic}

@@ -2,6 +2,7 @@
 -- response: where each of them stands.
 -- Stands, part_stands; Fields, first_stands, held_stands, last_stands; Pieces, one_stands, two_stands,
 -- bits_stand, end_stands, content_fields.
+-- The laws stand here, and what is made of them; the definitions in specs/Stands.
 -- Assumes nothing.
 use Rattle.std.specs.Prelude.{ℕ, ◌+◌, ◌-◌, ◌≡◌, refl, List, [], ◌∷◌, ◌++◌, length, take, drop}
 use Rattle.std.proofs.Common.{arith, ap, ◌∙◌, append_assoc, append-nil, length-append, take_at, drop_at}

@@ -2,6 +2,7 @@
 -- as one is judged so.
 -- Reads, judged_basic, basic_judged.
 -- The definitions are in Parts. Assumes nothing.
+-- The definitions stand here; the laws, and what is made of them, in proofs/JudgedLaws.
 use Rattle.std.specs.Prelude.{ℕ, ◌≤◌, ◌≡◌, List, length}
 use Rattle.layout.specs.Reading.{Basic, basic}
 use Rattle.layout.specs.Read.{reads}

@@ -2,6 +2,7 @@
 -- response: where each of them stands.
 -- Stands, part_stands; Fields, first_stands, held_stands, last_stands; Pieces, one_stands, two_stands,
 -- bits_stand, end_stands, content_fields.
+-- The definitions stand here; the laws, and what is made of them, in proofs/Stands.
 -- Assumes nothing.
 use Rattle.std.specs.Prelude.{ℕ, ◌+◌, ◌≤◌, ◌≡◌, List, [], ◌∷◌, ◌++◌, length, take, drop}
 use Rattle.read_response.specs.declared.Span.{Span}

@@ -1,5 +1,6 @@
 -- Headers of contents of fewer than 128 octets, and what stands before the name hash of a request.
 -- element_length; heads_form, front_form; heads_is, heads_form_lem.
+-- The laws stand here, and what is made of them; the definitions in specs/Heads.
 -- Assumes nothing.
 use Rattle.std.specs.Prelude.{ℕ, ◌+◌, ◌≤◌, ◌<◌, ◌≡◌, refl, List, [], ◌∷◌, ◌++◌, length}
 use Rattle.std.proofs.Common.{arith, ap, ◌∙◌}

@@ -1,5 +1,6 @@
 -- Headers of contents of fewer than 128 octets, and what stands before the name hash of a request.
 -- element_length; heads_form, front_form; heads_is, heads_form_lem.
+-- The definitions stand here; the laws, and what is made of them, in proofs/Heads.
 -- Assumes nothing.
 use Rattle.std.specs.Prelude.{ℕ, ◌+◌, List, ◌++◌}
 use Rattle.element.specs.Form.{head_form}

@@ -1,6 +1,7 @@
 -- The algorithms that a test knows, as a list, and the octets of their identifiers; the two that an OID
 -- with parameters absent or 05 00 has; SHA-1's.
 -- Listed, Knows, heads_of; form_small; plain_of, null_of, knows_oid; sha1_heads_lem, knows_sha1.
+-- The laws stand here, and what is made of them; the definitions in specs/Known.
 -- Assumes nothing.
 use Rattle.std.specs.Prelude.{ℕ, ◌+◌, ◌≤◌, ◌≡◌, true, ◌&&◌, eqb, length}
 use native.Mathlib.Omega.{arith}

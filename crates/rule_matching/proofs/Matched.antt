@@ -1,6 +1,7 @@
 -- What a match says of a CertID, part by part.
 -- both; Matched, match_exactly, match_same.
 -- The definition is in Match. Hashes have any length, and what algorithms are known is any test.
+-- The laws stand here, and what is made of them; the definitions in specs/Matched.
 -- Assumes nothing.
 use Rattle.std.specs.Prelude.{ℕ, ◌≡◌, refl, Bool, true, false, ◌&&◌, List, ◌↔◌, eqb}
 use Rattle.std.proofs.Common.{sym, ◌∙◌, eqb-true, eq-eqb}

@@ -1,6 +1,7 @@
 -- What a match says of a CertID, part by part.
 -- both; Matched, match_exactly, match_same.
 -- The definition is in Match. Hashes have any length, and what algorithms are known is any test.
+-- The definitions stand here; the laws, and what is made of them, in proofs/Matched.
 -- Assumes nothing.
 use Rattle.std.specs.Prelude.{ℕ, ◌≡◌, Bool, true, List}
 use Rattle.layout.specs.Reading.{Algorithm, CertId}

@@ -1,5 +1,6 @@
 -- The check by computing, from the octets: the case of document 01's program, M11, and what must be refused.
 -- checked; card, question_at; failure, desk_case; unfit_status, unfit_placed; response, answered, m11_passes, m11_late, m11_tolerated; other_issuer, too_tolerant.
+-- The laws stand here, and what is made of them; the definitions in specs/Examples.
 -- Assumes nothing.
 use Rattle.std.specs.Prelude.{ℕ, ◌≡◌, refl, List, [], replicate}
 use Rattle.layout.specs.Reading.{failed, basic}

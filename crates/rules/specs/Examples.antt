@@ -1,5 +1,6 @@
 -- The check by computing, from the octets: the case of document 01's program, M11, and what must be refused.
 -- checked; card, question_at; failure, desk_case; unfit_status, unfit_placed; response, answered, m11_passes, m11_late, m11_tolerated; other_issuer, too_tolerant.
+-- The definitions stand here; the laws, and what is made of them, in proofs/Examples.
 -- Assumes nothing.
 use Rattle.std.specs.Prelude.{ℕ, false, List, [], ◌∷◌, ◌++◌, replicate}
 use Rattle.std.proofs.Math.Option.{none, some}

@@ -3,6 +3,7 @@
 -- parts_joined; after_sum; handed_none, after_stays; refused_step; entry_step, end_step; handed_from, after_on,
 -- after_end.
 -- The definitions are in Step, Walked and Handed. Assumes nothing.
+-- The laws stand here, and what is made of them; the definitions in specs/HandedLaws.
 use Prim.Native.Nat.{ℕ, zero, suc, ◌+◌, ◌-◌, ◌≤◌, ◌<◌}
 use native.Mathlib.Omega.{arith}
 use Rattle.std.specs.Prelude.{◌≡◌, Bool, take, drop}

@@ -2,6 +2,7 @@
 -- ordinal, and all of its octets are there.
 -- HasEntry, entry_has; has_inside, part_sized, has_few.
 -- The definitions are in Step. Assumes nothing.
+-- The laws stand here, and what is made of them; the definitions in specs/StepLaws.
 use Rattle.std.specs.Prelude.{ℕ, ◌+◌, ◌≤◌, ◌<◌, ◌≡◌, refl, Bool, true, false, cond, List, ltb, length, drop}
 use Rattle.std.proofs.Common.{arith, sym, ap, ◌∙◌, length-take-le, ltb-true, ltb-false}
 use Rattle.std.proofs.Math.ListN.{length-drop}

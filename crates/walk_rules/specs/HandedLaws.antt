@@ -3,6 +3,7 @@
 -- parts_joined; after_sum; handed_none, after_stays; refused_step; entry_step, end_step; handed_from, after_on,
 -- after_end.
 -- The definitions are in Step, Walked and Handed. Assumes nothing.
+-- The definitions stand here; the laws, and what is made of them, in proofs/HandedLaws.
 use Prim.Native.Nat.{ℕ, suc}
 use Rattle.std.specs.Prelude.{◌≡◌}
 use mathlib.Core.List.{List, [], ◌∷◌}

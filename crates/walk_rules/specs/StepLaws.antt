@@ -2,6 +2,7 @@
 -- ordinal, and all of its octets are there.
 -- HasEntry, entry_has; has_inside, part_sized, has_few.
 -- The definitions are in Step. Assumes nothing.
+-- The definitions stand here; the laws, and what is made of them, in proofs/StepLaws.
 use Rattle.std.specs.Prelude.{ℕ, ◌≤◌, ◌<◌, ◌≡◌, List, length}
 use Rattle.layout.specs.Reading as reading
 use Rattle.layout.specs.Read.{reads}
