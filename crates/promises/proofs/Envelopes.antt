@@ -1,10 +1,9 @@
 -- When 5 is given and when 3, in octets: which responses are of another type, and which don't fit.
--- IsError, IsOtherType, IsBasic; success_form, other_type_exactly, unfit_exactly, too_long_exactly; two_given, three_given, four_given,
--- five_given.
+-- unfit_exactly; two_given, three_given, four_given, five_given. The kinds of responses, and which are of another type, are in
+-- specs/Envelopes.
 -- `form_of` is an element, its tag, its length and its content (element: Form); `judged_of` is what read_response::judge answers
 -- (response: Parts), `answer_of` what the check does (rules: Ruling), `der` the DER form of a reading (layout: Read).
 -- Which responses are basic, and which are errors, is in OneReading.
--- The laws stand here, and what is made of them; the definitions in specs/Envelopes.
 -- Assumes nothing.
 use Rattle.std.specs.Prelude.{ℕ, ◌≤◌, ◌<◌, ◌↔◌, ◌≡◌, refl, List, [], ◌∷◌, length}
 use Rattle.std.proofs.Common.{arith}

@@ -1,5 +1,4 @@
 -- What desk_refusal answers, by a response's octets: refusal_answers. What is said of the other functions for C is in specs/ForC.
--- The laws stand here, and what is made of them; the definitions in specs/ForC.
 -- Assumes nothing.
 use Rattle.std.specs.Prelude.{ℕ, ◌≤◌, ◌<◌, ◌↔◌, ◌≡◌, refl, List, [], ◌∷◌, length}
 use Rattle.std.proofs.Common.{arith}

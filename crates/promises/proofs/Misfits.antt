@@ -1,5 +1,4 @@
 -- When a response has no misfit, by its octets: fits_exactly. Misfits and what they decide are in specs/Misfits.
--- The laws stand here, and what is made of them; the definitions in specs/Misfits.
 -- Assumes nothing.
 use Rattle.std.specs.Prelude.{ℕ, ◌≤◌, ◌⊎◌, ◌↔◌, ◌≡◌, refl, List, [], length}
 use Rattle.std.proofs.Common.{arith, inl, inr, ⊎_elim}

@@ -1,12 +1,11 @@
 -- Only what was signed may speak (document 02, C-23): of a response that passes 1 to 5, the signed reading and the question
 -- decide the answer. Its signature, algorithm and certificates decide nothing.
--- same_part; alone, spoken_case, spoken, answer_spoken; same_signed, same_answer; whatever_around. Of the desk's answer to octets:
--- spoken_to, asked_spoken, desk_spoken; asked_same, desk_same, same_line.
+-- whatever_around. Of the desk's answer to octets: asked_spoken, desk_spoken; asked_same, desk_same, same_line. What they rest on is in
+-- specs/OnlySigned, SameSigned and SameAnswer.
 -- `answer_of` is what rule_check::check answers for a question, the signer's Name and a response (rules: Ruling); role and marks of the
 -- signer are in the question. `signed_of` is what show::signed_part shows (show: Shown), `asked` the answer to a question's octets and a
 -- response, `desk_of` that to the program's input, the one behind the other (desk_question: Asked), `line_of` the program's line
 -- (desk_question: Line). When an answer passes is in Passes.
--- The laws stand here, and what is made of them; the definitions in specs/OnlySigned.
 -- Assumes nothing.
 use Rattle.std.specs.Prelude.{ℕ, ◌≤◌, ◌≡◌, List, length, take, drop}
 use Rattle.std.proofs.Common.{sym, ◌∙◌}

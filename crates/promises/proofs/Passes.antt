@@ -1,9 +1,8 @@
 -- Which answers pass 1 to 5, of the check and of the desk's octets.
--- Passes, passes_exactly; asked_passes_exactly.
+-- passes_exactly; asked_passes_exactly.
 -- `answer_of` is what rule_check::check answers for a question, the signer's Name and a response (rules: Ruling), `asked` the answer
 -- to a question's octets and a response (desk_question: Asked).
 -- Passes stands in specs/Passes.
--- The laws stand here, and what is made of them; the definitions in specs/Passes.
 -- Assumes nothing.
 use Prim.Native.Nat.{ℕ, zero, suc, ◌≤◌, ◌<◌}
 use native.Mathlib.Omega.{arith}

@@ -1,10 +1,10 @@
 -- What the functions of include/desk.h that show a response answer, in document 01's terms.
--- Shows; refusal_answers; nothing_shown, signed_answers, signature_answers, algorithm_answers, certificates_answers;
+-- Shows; nothing_shown, signed_answers, signature_answers, algorithm_answers, certificates_answers;
 -- entry_answers, entry_shown. The check, requests and slips are in PapersForC.
 -- A premise of the form `n ≡ ..` says what a function returns or leaves, as its contract tells (contracts: CFunctions); the claims
 -- behind it are of the n returned and the places `from` and `len`. `Octets s` is what the type of a lent slice says of it. The
 -- definitions under those premises are in desk_c: Places.
--- The definitions stand here; the laws, and what is made of them, in proofs/ForC.
+-- What desk_refusal answers is in proofs/ForC.
 -- Assumes nothing.
 use Rattle.std.specs.Prelude.{ℕ, ◌+◌, ◌≤◌, ◌<◌, ◌⊎◌, ◌≡◌, refl, List, [], length, take, drop}
 use Rattle.std.proofs.Common.{⊎_elim, ◌∙◌}

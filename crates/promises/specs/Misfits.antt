@@ -1,11 +1,11 @@
 -- Where a response breaks (document 02, C-16): every place of it that does not fit, and that the first of them is the place that
 -- goes with refusal 3, in every answer of the check and in no other.
--- header_place; place_first, no_misfit, place_inside, fits_exactly; three_at, place_carried, three_placed, others_placeless.
--- What is shown, the walk, the desk's octets and desk_misfit: MisfitsTold. Slips have no place: Slips, read-back.
+-- header_place; place_first, no_misfit, place_inside; three_at, place_carried, three_placed, others_placeless.
+-- What is shown, the walk, the desk's octets and desk_misfit: MisfitsTold. Slips have no place: Slips, read_back.
 -- `misfits s` is every place of a response whose element itself does not fit (misfits: Misfits), by the layout as data (misfits:
 -- Described) and the places of each kind of element and row (faults: Description, Faults); none of these names a reader.
 -- `Least p l` says that p is one of l and none of l is before it (faults: Order).
--- The definitions stand here; the laws, and what is made of them, in proofs/Misfits.
+-- That a response without one is of one of three kinds is in proofs/Misfits.
 -- Assumes nothing.
 use Rattle.std.specs.Prelude.{ℕ, ◌≤◌, ◌↔◌, ◌≡◌, refl, cond, List, [], length}
 use Rattle.std.proofs.Common.{ap}

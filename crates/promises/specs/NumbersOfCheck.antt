@@ -1,6 +1,6 @@
 -- Document 01's number and values for each case of each enum that judging a response and the check's parts answer with.
 -- judged_told, entry_told, freshness_told, strange_told, found_told, opened_told, opened_place; judged_told_lem, freshness_told_lem.
--- Those of writers and readers of parts are in Numbers, those of a verdict in answer: Verdict (kindOf, valuesOf, numberOf,
+-- Those of writers and readers of parts are in Numbers, those of a verdict in answer: Verdict (kind_of, values_of, number_of,
 -- status_of), those of filing and asking in cache_rules: Numbers.
 -- Assumes nothing.
 use Rattle.std.specs.Prelude.{ℕ, ◌≡◌, refl, List, [], ◌∷◌, ◌++◌}

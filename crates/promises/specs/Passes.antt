@@ -1,6 +1,5 @@
 -- Which answers pass 1 to 5, of the check and of the desk's octets.
 -- Passes. Exactly when an answer passes is in proofs/Passes.
--- The definitions stand here; the laws, and what is made of them, in proofs/Passes.
 -- Assumes nothing.
 use Prim.Native.Nat.{ℕ, ◌<◌}
 use Rattle.std.specs.Prelude.{◌≡◌}
