@@ -1,18 +1,20 @@
 -- What the code knows at each return and in each turn, and what follows there.
--- one_zero, one_other; zero_next, zero_end; fill_next, fill_other, fill_end; field_long, field_short, counted, field_serial,
--- field_fill; card_name, card_key,
--- card_serial, card_size_lem.
+-- zero_next, zero_end; fill_all; field_long, field_short, counted, field_serial, field_fill; cards_alike.
 -- Assumes nothing.
 use Prim.Native.Nat.{ℕ, suc, ◌+◌, ◌-◌, ◌<◌, ◌≤◌}
 use native.Mathlib.Numerals.{add-one}
 use native.Mathlib.Omega.{arith}
 use mathlib.Core.Path.{◌≡◌, refl, sym, ap, ◌∙◌}
-use mathlib.Core.Bool.{Bool, true, false, cond, not}
-use mathlib.Core.List.{List}
+use mathlib.Core.Bool.{Bool, true, false, cond, not, ◌&&◌}
+use mathlib.Core.List.{List, [], ◌∷◌}
 use lib.Dec.{eqb}
 use lib.ListN.{length, get_or, take, drop, drop_of_length-le, length-drop}
+use lib.Pointwise.{pointwise}
 use lib.Seq.{drop-cons, length-take-le, take_all}
-use borrow.Author.Tests.{eq-eqb, ne_eqb, le-leb, lt-leb, not-true, not-false}
+use borrow.Author.Tests.{le-leb, lt-leb, not-true, not-false}
+use Rattle.std.specs.Prelude.{nat_eq}
+use Rattle.std.specs.List.{list_all}
+use Rattle.octets.proofs.Eights.{same_few}
 use Rattle.octets.specs.Same.{same_of}
 use Rattle.content.specs.Serial.{serial_ok}
 use Rattle.answer.specs.declared.Card.{Card}
@@ -20,17 +22,9 @@ use Rattle.answer.specs.Card.{all_zero, field_ok, same_hashes, same_card}
 
 -- ---- octets are tested for zeros: the answer is that of those before and of the rest
 
-pub one_zero : (z : Bool) (x : ℕ) → x ≡ 0 → z ≡ cond (eqb x 0) z false
-one_zero z x e = sym (rw (eq-eqb x 0 e))
-
-pub one_other : (z : Bool) (x : ℕ) → (x ≡ 0 → ⊥) → false ≡ cond (eqb x 0) z false
-one_other z x e = sym (rw (ne_eqb x 0 e))
-
-one_first : (b z r : Bool) → cond z (cond b r false) false ≡ cond (cond b z false) r false
-one_first true true r = refl
-one_first true false r = refl
-one_first false true r = refl
-one_first false false r = refl
+one_more : (b z r : Bool) → cond z (cond b r false) false ≡ cond (z && b) r false
+one_more b true r = refl
+one_more b false r = refl
 
 whole : (y : Bool) → cond y true false ≡ y
 whole true = refl
@@ -38,32 +32,25 @@ whole false = refl
 
 module _ (s : List ℕ) (i : ℕ) (z : Bool) (p : all_zero s ≡ cond z (all_zero (drop i s)) false) where
   -- one more octet
-  pub zero_next : i < length s → (w : Bool) → w ≡ cond (eqb (get_or s i 0) 0) z false → all_zero s ≡ cond w (all_zero (drop (i + 1) s)) false
+  pub zero_next : i < length s → all_zero s ≡ cond (z && eqb (get_or s i 0) 0) (all_zero (drop (i + 1) s)) false
   unfolding all_zero
-  zero_next h w e =
-      p ∙ rw (drop-cons s i 0 h, add-one i, e) (one_first (eqb (get_or s i 0) 0) z (all_zero (drop (suc i) s)))
+  zero_next h =
+      p ∙ rw (drop-cons s i 0 h, add-one i) (one_more (eqb (get_or s i 0) 0) z (all_zero (drop (suc i) s)))
 
   -- at the end
   pub zero_end : length s ≤ i → z ≡ all_zero s
   unfolding all_zero
   zero_end h = sym (p ∙ rw (drop_of_length-le s h) (whole z))
 
--- the same where the octets before are zeros
-module _ (s : List ℕ) (i : ℕ) (p : all_zero s ≡ all_zero (drop i s)) where
-  -- one more zero
-  pub fill_next : i < length s → get_or s i 0 ≡ 0 → all_zero s ≡ all_zero (drop (i + 1) s)
-  unfolding all_zero
-  fill_next h e = p ∙ rw (drop-cons s i 0 h, add-one i, eq-eqb (get_or s i 0) 0 e)
-
-  -- an octet that is not zero
-  pub fill_other : i < length s → (get_or s i 0 ≡ 0 → ⊥) → false ≡ all_zero s
-  unfolding all_zero
-  fill_other h e = sym (p ∙ rw (drop-cons s i 0 h, ne_eqb (get_or s i 0) 0 e))
-
-  -- at the end
-  pub fill_end : length s ≤ i → true ≡ all_zero s
-  unfolding all_zero
-  fill_end h = sym (p ∙ rw (drop_of_length-le s h))
+-- the library's test of each octet
+pub fill_all : (s : List ℕ) → list_all (λ x. eqb x 0) s ≡ all_zero s
+unfolding all_zero
+fill_all [] = refl
+fill_all (x ∷ s) = go (eqb x 0) (fill_all s)
+  where
+    go : (t : Bool) → list_all (λ x. eqb x 0) s ≡ all_zero s → (t && list_all (λ x. eqb x 0) s) ≡ cond t (all_zero s) false
+    go true h = h
+    go false h = refl
 
 -- ---- a serial in its field
 
@@ -97,25 +84,15 @@ module _ (size : ℕ) (field : List ℕ) where
 
 -- ---- two cards, field by field
 
-module _ (a b : Card) (n : Bool) (p : n ≡ same_of a.name b.name) where
-  -- the name hashes are not equal
-  pub card_name : not n ≡ true → false ≡ same_card a b
-  unfolding same_card same_hashes
-  card_name t = sym (rw (← p, not-true n t))
+both_is : (t u v w : Bool) → (t && (u && (v && w))) ≡ cond (cond t u false) (cond v w false) false
+both_is true true true w = refl
+both_is true true false w = refl
+both_is true false v w = refl
+both_is false u v w = refl
 
-  module _ (u : not n ≡ false) (k : Bool) (q : k ≡ same_of a.key b.key) where
-    -- the key hashes are not
-    pub card_key : not k ≡ true → false ≡ same_card a b
-    unfolding same_card same_hashes
-    card_key t = sym (rw (← p, not-false n u, ← q, not-true k t))
-
-    module _ (v : not k ≡ false) (s : Bool) (r : s ≡ same_of a.serial b.serial) where
-      -- the serials' fields are not
-      pub card_serial : not s ≡ true → false ≡ same_card a b
-      unfolding same_card same_hashes
-      card_serial t = sym (rw (← p, not-false n u, ← q, not-false k v, ← r, not-true s t))
-
-      -- all three are: the sizes decide
-      pub card_size_lem : not s ≡ false → eqb a.size b.size ≡ same_card a b
-      unfolding same_card same_hashes
-      card_size_lem w = sym (rw (← p, not-false n u, ← q, not-false k v, ← r, not-false s w))
+pub cards_alike : (a b : Card)
+    → (pointwise nat_eq a.name b.name && (pointwise nat_eq a.key b.key && (pointwise nat_eq a.serial b.serial && eqb a.size b.size))) ≡ same_card a b
+unfolding same_card same_hashes
+cards_alike a b =
+    rw (same_few a.name b.name, same_few a.key b.key, same_few a.serial b.serial)
+    (both_is (same_of a.name b.name) (same_of a.key b.key) (same_of a.serial b.serial) (eqb a.size b.size))

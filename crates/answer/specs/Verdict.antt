@@ -2,14 +2,10 @@
 -- kind_of; reason_of, values_of; number_of, status_of; saying, without_place; refused_at, refused. That a refusal is none of the
 -- others is in VerdictLaws.
 -- Assumes nothing.
-use Rattle.std.specs.Prelude.{ℕ, List, [], ◌∷◌}
-use Rattle.answer.specs.declared.Reason.{Reason}
-use Rattle.answer.specs.declared.Reason.TheVariants.{Given, Absent}
+use Rattle.std.specs.Prelude.{ℕ, List, [], ◌∷◌, Option, Some, None}
 use Rattle.answer.specs.declared.Verdict.{Verdict}
 use Rattle.answer.specs.declared.Verdict.TheVariants.{Good, Revoked, Unknown, Refused}
 use Rattle.answer.specs.declared.Card.{Card}
-use Rattle.answer.specs.declared.Place.{Place}
-use Rattle.answer.specs.declared.Place.TheVariants as place
 use Rattle.answer.specs.declared.Answer.{Answer}
 use Rattle.answer.specs.Card.{empty_card}
 
@@ -21,9 +17,9 @@ kind_of (Unknown this next) = 3
 kind_of (Refused number status) = 4
 
 -- a reason as a number, FF if absent
-abbrev pub reason_of : Reason → ℕ
-reason_of (Given n) = n
-reason_of Absent = 255
+abbrev pub reason_of : Option ℕ → ℕ
+reason_of (Some n) = n
+reason_of None = 255
 
 -- thisUpdate, nextUpdate and, for revoked, the revocationTime and the reason; of a refusal the number and the status
 abbrev pub values_of : Verdict → List ℕ
@@ -48,16 +44,16 @@ status_of (Refused number status) = status
 
 -- a verdict for a card, without a place
 abbrev pub saying : Verdict → Card → Answer
-saying verdict card = record { verdict = verdict; card = card; place = place.Absent }
+saying verdict card = record { verdict = verdict; card = card; place = None }
 
 -- the same answer without its place
 abbrev pub without_place : Answer → Answer
 without_place a = saying a.verdict a.card
 
 -- a refusal returns its number and status, the place where it has one, and an empty card
-abbrev pub refused_at : ℕ → ℕ → Place → Answer
+abbrev pub refused_at : ℕ → ℕ → Option ℕ → Answer
 refused_at number status place = record { verdict = Refused number status; card = empty_card; place = place }
 
 -- one that has no place
 unfoldable pub refused : ℕ → ℕ → Answer
-refused number status = refused_at number status place.Absent
+refused number status = refused_at number status None

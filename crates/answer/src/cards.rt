@@ -1,10 +1,11 @@
 // The card: the empty one, one judged, two compared.
-ghost use Rattle.std.specs.Prelude.{◌≡◌, false, cond, eqb};
+ghost use Rattle.std.specs.Prelude.{◌≡◌};
 ghost use Rattle.answer.specs.Card.{all_zero, field_ok, card_ok, empty_card, same_card};
 
 use crate::Card;
 
 // The card that a refusal hands out.
+#[tactic(auto, unfolding(crate::specs::Card::empty_card))]
 pub fn empty_card() -> Card
     ensures { result ≡ empty_card }
 {
@@ -16,26 +17,15 @@ pub fn empty_card() -> Card
     }
 }
 
-// Whether all octets are zeros after one more, by whether those before it are.
-fn still_zero(zero: bool, octet: u8) -> bool
-    ensures { result ≡ cond (eqb octet 0) zero false }
-{
-    if octet == 0 {
-        return zero;
-    }
-    false
-}
-
 // Whether all of these octets are zeros. The loop looks at all of them: so the compiler takes many at
 // once.
+#[tactic(auto, using(crate::proofs::Cases::zero_next, crate::proofs::Cases::zero_end))]
 fn each_zero(s: &[u8]) -> bool
     ensures { result ≡ all_zero s.now }
 {
     let mut zero = true;
-    let mut i = 0;
-    while i < s.len() {
-        zero = still_zero(zero, s[i]);
-        i += 1;
+    for octet in s {
+        zero &= *octet == 0;
     }
     zero
 }
@@ -60,22 +50,16 @@ pub fn all_zero(s: &[u8]) -> bool
     each_zero(&s[last..])
 }
 
-// The same of a serial's fill, which is short: the loop ends at the first octet that is not zero.
+// The same of a serial's fill, which is short: it ends at the first octet that is not zero.
 fn fill_zero(s: &[u8]) -> bool
     ensures { result ≡ all_zero s.now }
 {
-    let mut at = 0;
-    while at < s.len() {
-        if s[at] != 0 {
-            return false;
-        }
-        at += 1;
-    }
-    true
+    s.iter().all(|octet| *octet == 0)
 }
 
 // Whether a serial of this size stands in its field: at most 20 octets, by the serial rule, and zeros
 // after it.
+#[tactic(auto, using(crate::proofs::Cases::field_long, crate::proofs::Cases::field_short, crate::proofs::Cases::counted, crate::proofs::Cases::field_serial, crate::proofs::Cases::field_fill))]
 pub fn field_fits(size: usize, field: &[u8]) -> bool
     ensures { result ≡ field_ok size field.now }
 {
@@ -85,38 +69,20 @@ pub fn field_fits(size: usize, field: &[u8]) -> bool
     if field.len() < size {
         return content::serial_fits(field);
     }
-    if !content::serial_fits(&field[..size]) {
-        return false;
-    }
-    fill_zero(&field[size..])
+    content::serial_fits(&field[..size]) && fill_zero(&field[size..])
 }
 
 // Whether the card's serial keeps the serial rule and its fill is zeros.
 pub fn card_fits(card: Card) -> bool
     ensures { result ≡ card_ok card }
 {
-    let serial = card.serial;
-    field_fits(card.size, &serial)
+    field_fits(card.size, &card.serial)
 }
 
 // Whether two cards are one: both hashes, the serial's field and its size.
+#[tactic(auto, using(crate::proofs::Cases::cards_alike))]
 pub fn same_card(a: Card, b: Card) -> bool
     ensures { result ≡ same_card a b }
 {
-    let name = a.name;
-    let other = b.name;
-    if !octets::same20(name, other) {
-        return false;
-    }
-    let key = a.key;
-    let other = b.key;
-    if !octets::same20(key, other) {
-        return false;
-    }
-    let serial = a.serial;
-    let other = b.serial;
-    if !octets::same20(serial, other) {
-        return false;
-    }
-    a.size == b.size
+    a == b
 }

@@ -14,7 +14,7 @@ pub use cards::{all_zero, card_fits, empty_card, field_fits, same_card};
 pub use verdicts::{refuse, refuse_at};
 
 // Which reader's card: the issuer's two hashes and the serial's octets, filled up with zeros.
-#[derive(Clone, Copy)]
+#[derive(Clone, Copy, PartialEq, Eq)]
 pub struct Card {
     pub name: [u8; 20],
     pub key: [u8; 20],
@@ -22,14 +22,7 @@ pub struct Card {
     pub size: usize,
 }
 
-// A reason for a revocation.
-#[derive(Clone, Copy)]
-pub enum Reason {
-    Given(u8),
-    Absent,
-}
-
-// What a response says of a card.
+// What a response says of a card. A revocation may have a reason.
 #[derive(Clone, Copy)]
 pub enum Verdict {
     Good {
@@ -40,7 +33,7 @@ pub enum Verdict {
         this: u64,
         next: u64,
         at: u64,
-        reason: Reason,
+        reason: Option<u8>,
     },
     Unknown {
         this: u64,
@@ -52,18 +45,11 @@ pub enum Verdict {
     },
 }
 
-// Where a response does not fit: with refusal 3 the octet that is objected to, counted from the start of
-// the response.
-#[derive(Clone, Copy)]
-pub enum Place {
-    Absent,
-    At(usize),
-}
-
-// The verdict, with the card that it is about beside it, and the place where the verdict has one.
+// The verdict, with the card that it is about beside it, and with refusal 3 the place where the response does
+// not fit: the octet that is objected to, counted from the start of the response.
 #[derive(Clone, Copy)]
 pub struct Answer {
     pub verdict: Verdict,
     pub card: Card,
-    pub place: Place,
+    pub place: Option<usize>,
 }

@@ -1,21 +1,20 @@
 -- What the code knows at each return, and what follows there.
 -- card_short, card_long; misses; found_none, found_here, found_missed; find_19, find_clock, find_card, find_there;
--- tell_here, tell_none, tell_refused, tell_says; card_slip, asks.
+-- tell_here, tell_none, tell_refused, tell_says; card_slip, asks; found_cases, find_cases, tell_cases.
 -- Assumes nothing.
 use Prim.Native.Nat.{ℕ, ◌-◌, ◌≤◌, ◌<◌}
 use mathlib.Core.Path.{◌≡◌, refl, sym, ap, ◌∙◌}
 use mathlib.Core.Bool.{Bool, true, false, not}
 use mathlib.Core.List.{List, []}
+use Rattle.std.specs.Prelude.{None, Some}
 use lib.ListN.{length, get_or, take, drop, replicate}
 use borrow.Author.Tests.{eq-eqb, ne_eqb, le-leb, lt-leb, not-true, not-false}
 use mir.Syntax.{w8}
 use mir.Val.{Fits}
 use Rattle.octets.specs.OctetsLaws.{octets_from}
 use Rattle.freshness.specs.declared.Clock.{Clock}
-use Rattle.freshness.specs.declared.Freshness.{Freshness}
-use Rattle.freshness.specs.declared.Next.TheVariants.{At as NextAt}
 use Rattle.freshness.specs.Clock.{clock_ok}
-use Rattle.freshness.specs.Fresh.{fresh_of, fresh_refusal}
+use Rattle.freshness.specs.Fresh.{Freshness, fresh_of, fresh_refusal}
 use Rattle.answer.specs.declared.Card.{Card}
 use Rattle.answer.specs.declared.Answer.{Answer}
 use Rattle.answer.specs.Card.{card_ok, empty_card}
@@ -25,7 +24,6 @@ use Rattle.fields.specs.Output.{output_in}
 use Rattle.slip.specs.Slip.{slip_of, slip_refusal, read_of, Sized}
 use Rattle.cache_room.specs.Room.{held_at}
 use Rattle.cache_rules.specs.declared.Told.{Told}
-use Rattle.cache_rules.specs.declared.Asked.TheVariants as asked
 use Rattle.cache_rules.specs.Place.{slip_in, card_at, says_at}
 use Rattle.cache_rules.specs.Cache.{is_cache, told, not_held, ask_of}
 use Rattle.cache_place.specs.Times.{this_at, next_at}
@@ -49,7 +47,7 @@ module _ (c : List ℕ) where
 -- ---- its times
 
 pub misses : (clock : Clock) (p : List ℕ) (this next : ℕ) → this ≡ this_at p → next ≡ next_at p
-    → (fresh : Freshness) → fresh ≡ fresh_of this (NextAt next) clock.now clock.tolerance → (r : ℕ) → r ≡ fresh_refusal fresh → r ≡ misses_at clock p
+    → (fresh : Freshness) → fresh ≡ fresh_of this (Some next) clock.now clock.tolerance → (r : ℕ) → r ≡ fresh_refusal fresh → r ≡ misses_at clock p
 unfolding misses_at
 misses clock p this next a b fresh e r f = f ∙ ap fresh_refusal e ∙ rw (a, b)
 
@@ -98,15 +96,15 @@ unfolding told_in says_at
 tell_here s found i e p f t g a h r q = q ∙ ap told (h ∙ ap (read_of 20) (g ∙ ap slip_in f)) ∙ ap (told_in s) (sym e)
 
 pub tell_none : (s : List ℕ) (found : Sought) → found ≡ NotHeld → (card : Card) → card ≡ empty_card
-    → record { asked = asked.NotHeld; card = card } ≡ told_in s found
+    → record { asked = None; card = card } ≡ told_in s found
 unfolding told_in not_held
-tell_none s found e card f = ap (λ (x : Card). record { asked = asked.NotHeld; card = x }) f ∙ ap (told_in s) (sym e)
+tell_none s found e card f = ap (λ (x : Card). record { asked = None; card = x }) f ∙ ap (told_in s) (sym e)
 
 pub tell_refused : (s : List ℕ) (found : Sought) (n : ℕ) → found ≡ Refused n → (a : Answer) → a ≡ refused n 0 → (r : Told) → r ≡ told a → r ≡ told_in s found
 unfolding told_in
 tell_refused s found n e a f r q = q ∙ ap told f ∙ ap (told_in s) (sym e)
 
-pub tell_says : (a : Answer) → record { asked = asked.Says a.verdict; card = a.card } ≡ told a
+pub tell_says : (a : Answer) → record { asked = Some a.verdict; card = a.card } ≡ told a
 unfolding told
 tell_says a = refl
 
@@ -123,3 +121,11 @@ module _ (card : Card) (a : length card.name ≡ 20) (b : length card.key ≡ 20
       → (found : Sought) → found ≡ ask_found clock (take (62 - 1) (drop 1 slip)) s → (r : Told) → r ≡ told_in s found → r ≡ ask_of clock card s
   asks clock s known slip e found f r q =
       q ∙ ap (told_in s) (f ∙ ap (λ (x : List ℕ). ask_found clock x s) e) ∙ found_told_lem clock s (octets_from s (λ i l. (known i).fits)) card sized
+
+-- ---- what each function needs
+
+pub ruleset found_cases = (found_none, found_here, found_missed)
+
+pub ruleset find_cases = (find_19, find_clock, find_card, find_there)
+
+pub ruleset tell_cases = (tell_here, tell_none, tell_refused)

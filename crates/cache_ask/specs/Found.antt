@@ -1,9 +1,8 @@
 -- What is found of a card in the cache (document 02, C-11), over the card's octets.
 -- card_in_range, card_or_zeros; misses_at, found_in, ask_found; told_in.
 -- That what is told of it is what asking gives is in FoundLaws. Assumes nothing.
-use Rattle.std.specs.Prelude.{ℕ, Bool, false, cond, List, [], eqb, leb, length, get_or, replicate}
+use Rattle.std.specs.Prelude.{ℕ, Bool, false, cond, List, [], eqb, leb, length, get_or, replicate, Some}
 use Rattle.freshness.specs.declared.Clock.{Clock}
-use Rattle.freshness.specs.declared.Next.TheVariants.{At as NextAt}
 use Rattle.freshness.specs.Clock.{clock_ok}
 use Rattle.freshness.specs.Fresh.{fresh_of, fresh_refusal}
 use Rattle.answer.specs.declared.Card.{Card}
@@ -30,7 +29,7 @@ card_or_zeros card = cond (card_ok card) (card_octets card) (replicate 61 0)
 
 -- the number of the rule that the times in a place miss, or 0
 unfoldable pub misses_at : Clock → List ℕ → ℕ
-misses_at clock p = fresh_refusal (fresh_of (this_at p) (NextAt (next_at p)) clock.now clock.tolerance)
+misses_at clock p = fresh_refusal (fresh_of (this_at p) (Some (next_at p)) clock.now clock.tolerance)
 
 module _ (clock : Clock) where
   -- what is found in place i

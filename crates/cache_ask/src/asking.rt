@@ -4,37 +4,38 @@ ghost use Rattle.cache_rules.specs.Cache.{told, ask_of};
 ghost use Rattle.cache_ask.specs.Found.{card_or_zeros, told_in};
 
 use crate::{Sought, finding};
-use answer::{Answer, Card, Place, Verdict};
-use cache_rules::{Asked, Told};
+use answer::{Answer, Card, Verdict};
+use cache_rules::Told;
 use freshness::Clock;
 
 // The card as the slip of a good answer has it, after the kind; zeros where its serial is out of range.
+#[tactic(auto, using(crate::proofs::Cases::card_slip))]
 fn card_slip(card: Card) -> [u8; 78]
     ensures { take 61 (drop 1 result) ≡ card_or_zeros card }
 {
     let mut slip = [0u8; 78];
-    let verdict = Verdict::Good { this: 0, next: 0 };
-    let place = Place::Absent;
     let answer = Answer {
-        verdict,
+        verdict: Verdict::Good { this: 0, next: 0 },
         card,
-        place,
+        place: None,
     };
     slip_write::write_slip(answer, &mut slip);
     slip
 }
 
 // An answer as it is told, a refusal's too.
+#[tactic(auto, using(crate::proofs::Cases::tell_says))]
 fn tell(answer: Answer) -> Told
     ensures { result ≡ told answer }
 {
-    let verdict = answer.verdict;
-    let asked = Asked::Says(verdict);
-    let card = answer.card;
-    Told { asked, card }
+    Told {
+        asked: Some(answer.verdict),
+        card: answer.card,
+    }
 }
 
 // What is told of what was found.
+#[tactic(auto, using(crate::proofs::Cases::tell_cases))]
 fn tell_found(s: &[u8], found: Sought) -> Told
     ensures { result ≡ told_in s.now found }
 {
@@ -42,18 +43,13 @@ fn tell_found(s: &[u8], found: Sought) -> Told
         Sought::At(i) => {
             let p = cache_places::place_at(s, i);
             let slip = cache_place::slip_at(p);
-            let answer = slip_read::read_slip(slip);
-            tell(answer)
+            tell(slip_read::read_slip(slip))
         }
-        Sought::NotHeld => {
-            let asked = Asked::NotHeld;
-            let card = answer::empty_card();
-            Told { asked, card }
-        }
-        Sought::Refused(number) => {
-            let answer = answer::refuse(number, 0);
-            tell(answer)
-        }
+        Sought::NotHeld => Told {
+            asked: None,
+            card: answer::empty_card(),
+        },
+        Sought::Refused(number) => tell(answer::refuse(number, 0)),
     }
 }
 

@@ -2,7 +2,7 @@
 -- no refusal may be filed, it says that answer, and asking for its card then gives what the check gives.
 -- filed_says, filed_as_the_check, filed_since; check_slip, never_17.
 -- `slip_of` is what slip_write::write_slip writes. Assumes nothing.
-use Rattle.std.specs.Prelude.{ℕ, ◌≤◌, ◌⊎◌, ◌≡◌, List}
+use Rattle.std.specs.Prelude.{ℕ, ◌≤◌, ◌⊎◌, ◌≡◌, List, None, Ok, Err}
 use Rattle.std.proofs.Common.{⊎_elim, sym, ap, ◌∙◌}
 use Rattle.octets.specs.Octets.{Octets}
 use Rattle.octets.specs.SameLaws.{impossible}
@@ -15,7 +15,7 @@ use Rattle.rules.specs.Accepted.{NoRefusal}
 use Rattle.rules.proofs.RulingLaws.{accepted_exactly, accepted_answer, accepted_placeless}
 use Rattle.desk_question.proofs.FitsLaws.{answer_fits}
 use Rattle.freshness.specs.declared.Clock.{Clock}
-use Rattle.cache_rules.specs.declared.Filed.TheVariants.{Count, Refused}
+use Rattle.cache_rules.specs.declared.Unfiled.TheVariants as unfiled
 use Rattle.cache_rules.specs.Place.{says_at, is_said, place_of, this_of, says_of, WholeCard}
 use Rattle.cache_rules.specs.Cache.{place_in, takes, filing_refusal, filed_of, buffer_of}
 use Rattle.cache_rules.specs.Has.{Has}
@@ -32,10 +32,10 @@ use Rattle.cache_check.specs.SinceTheorem.{as_the_check_since}
 
 -- a slip t that says the check's answer is filed into s at a time and accepted, and no place held a later slip for its
 -- card
-module _ (clock : Clock) (s t : List ℕ) (p : Octets s) (o : Octets t) (n : ℕ) (accepted : filed_of clock s t ≡ Count n)
+module _ (clock : Clock) (s t : List ℕ) (p : Octets s) (o : Octets t) (n : ℕ) (accepted : filed_of clock s t ≡ Ok n)
     (q : Question) (name r : List ℕ) (v : NoRefusal (answer_of q name r).verdict) (d : says_of t ≡ answer_of q name r)
     (w : (i : ℕ) → Has s i q.card → this_of (says_at (place_in s i)).verdict ≤ this_of (answer_of q name r).verdict) where
-  e : filing_refusal clock s t ≡ 0
+  e : filing_refusal clock s t ≡ None
   e = count_accepted clock s t n accepted
 
   card_same : (says_of t).card ≡ q.card
@@ -78,7 +78,7 @@ module _ (q : Question) (name r : List ℕ) (o : Octets r) (n : NoRefusal (answe
       read_written (answer_of q name r) (answer_fits q name r o) 20 (λ c. rw e w) ∙ accepted_placeless q name r n
 
   -- filing it never gives 17
-  pub never_17 : (clock : Clock) (s : List ℕ) → filed_of clock s (slip_of (answer_of q name r)) ≡ Refused 17 → ⊥
+  pub never_17 : (clock : Clock) (s : List ℕ) → filed_of clock s (slip_of (answer_of q name r)) ≡ Err unfiled.Slip → ⊥
   never_17 clock s e =
       impossible
       (sym ((refused_17 clock s (slip_of (answer_of q name r))).0 e).2 ∙ ap is_said check_slip ∙ no_refusal_said (answer_of q name r) n)

@@ -1,7 +1,7 @@
 -- A filing in parts is the filing: in a cache, for a slip that may be filed, at a time in range.
 -- own_card; held_filed_lem, held_left; new_filed_lem, new_left.
 -- The definitions are in Put, the filing in crate cache_rules. Assumes nothing.
-use Rattle.std.specs.Prelude.{ℕ, ◌*◌, ◌≤◌, ◌<◌, ◌≡◌, Bool, get_or}
+use Rattle.std.specs.Prelude.{ℕ, ◌*◌, ◌≤◌, ◌<◌, ◌≡◌, Bool, get_or, None, Some, Ok, Err}
 use Rattle.std.proofs.Common.{arith, ◌∙◌}
 use Rattle.std.proofs.Math.Path.{refl, sym, ap}
 use Rattle.std.proofs.Math.Bool.{true, false, cond}
@@ -17,13 +17,13 @@ use Rattle.slip.specs.Slip.{card_octets}
 use Rattle.cache_room.specs.Room.{is_empty, held_at, count, is_free, free_at, kept_in}
 use Rattle.cache_room.proofs.FirstLaws.{first_same, held_card}
 use Rattle.cache_room.proofs.TakenLaws.{taken_held, taken_free}
-use Rattle.cache_rules.specs.declared.Filed.TheVariants.{Count, Refused}
+use Rattle.cache_rules.specs.declared.Unfiled.TheVariants as unfiled
 use Rattle.cache_rules.specs.Place.{places, card_at, says_at, is_said, place_of, this_of, is_stale, wins_of, says_of}
 use Rattle.cache_rules.proofs.PlaceLaws.{place_card, card_there, card_some}
 use Rattle.cache_rules.proofs.FitLaws.{full_said}
-use Rattle.cache_rules.specs.Cache.{room_of, place_in, is_cache, takes, filing_refusal, filed_of, buffer_of}
+use Rattle.cache_rules.specs.Cache.{room_of, place_in, is_cache, takes, filing_refusal, filed_by, filed_of, buffer_of}
 use Rattle.cache_rules.proofs.CacheLaws.{cache_exactly, room_length, place_octets, place_fit}
-use Rattle.cache_rules.proofs.RefusalLaws.{refusal_exactly, filed_refused, refused_number}
+use Rattle.cache_rules.proofs.RefusalLaws.{refusal_exactly, filed_refused}
 use Rattle.cache_rules.proofs.FilingLaws.{after_cache, after_put, filed_count_lem}
 use Rattle.cache_rules.proofs.AfterLaws.{new_kept, later_kept, nothing_written}
 use Rattle.cache_place.specs.Times.{this_at, late_at}
@@ -49,12 +49,12 @@ module _ (clock : Clock) (s t : List ℕ) (p : Octets s) (o : Octets t) (c : is_
 
   -- ---- accepted: what is left, and its count
 
-  module _ (e : filing_refusal clock s t ≡ 0) where
+  module _ (e : filing_refusal clock s t ≡ None) where
     after : evenly (buffer_of clock s t) ≡ room_of (buffer_of clock s t)
     after = even_room (buffer_of clock s t) ((cache_exactly (buffer_of clock s t)).0 (after_cache clock s t e o)).0
 
-    counted : (x : List ℕ) → x ≡ buffer_of clock s t → Count (count card_at (evenly x)) ≡ filed_of clock s t
-    counted x q = ap (λ (y : List ℕ). Count (count card_at (evenly y))) q ∙ ap (λ (l : List (List ℕ)). Count (count card_at l)) after ∙ sym (filed_count_lem clock s t e o)
+    counted : (x : List ℕ) → x ≡ buffer_of clock s t → Ok (count card_at (evenly x)) ≡ filed_of clock s t
+    counted x q = ap (λ (y : List ℕ). filed_by None (count card_at (evenly y))) q ∙ ap (λ (l : List (List ℕ)). filed_by None (count card_at l)) after ∙ sym (filed_count_lem clock s t e o)
 
     written : (i : ℕ) → takes clock s t ≡ i → kept_in card_at wins_of (place_of t) (room_of s) ≡ place_of t → put_in s (87 * i) (place_of t) ≡ buffer_of clock s t
     written i q w = sym (after_put clock s t e o ∙ rw (q, w))
@@ -74,7 +74,7 @@ module _ (clock : Clock) (s t : List ℕ) (p : Octets s) (o : Octets t) (c : is_
         let q : held_at card_at (card_at (place_of t)) (room_of s) ≡ i = ap (λ (x : List ℕ). held_at card_at x (room_of s)) (sym own_card) ∙ held in
         taken_held card_at (is_stale clock) (card_at (place_of t)) (room_of s) (omega (arith, room_length s)) ∙ q
 
-    accepted : filing_refusal clock s t ≡ 0
+    accepted : filing_refusal clock s t ≡ None
     accepted = (refusal_exactly clock s t).4.1 (c, k, d, lt-ltb (takes clock s t) places (omega (arith, taken)))
 
     -- the slip that the place holds, and its thisUpdate
@@ -126,10 +126,10 @@ module _ (clock : Clock) (s t : List ℕ) (p : Octets s) (o : Octets t) (c : is_
     taken_new =
         taken_free card_at (is_stale clock) (card_at (place_of t)) (room_of s) (rw (room_length s, place_card t o d) nowhere) ∙ sym free
 
-    full : 64 ≤ new_at clock s t → filing_refusal clock s t ≡ 20
+    full : 64 ≤ new_at clock s t → filing_refusal clock s t ≡ Some unfiled.Full
     full l = (refusal_exactly clock s t).3.1 (c, k, d, le-ltb (takes clock s t) places (omega (arith, taken_new)))
 
-    accepted_new : new_at clock s t < 64 → filing_refusal clock s t ≡ 0
+    accepted_new : new_at clock s t < 64 → filing_refusal clock s t ≡ None
     accepted_new l = (refusal_exactly clock s t).4.1 (c, k, d, lt-ltb (takes clock s t) places (omega (arith, taken_new)))
 
     pub new_left : new_in clock s t ≡ buffer_of clock s t
@@ -137,7 +137,7 @@ module _ (clock : Clock) (s t : List ℕ) (p : Octets s) (o : Octets t) (c : is_
     new_left = go (leb 64 (new_at clock s t)) refl
       where
         go : (u : Bool) → leb 64 (new_at clock s t) ≡ u → cond u s (put_in s (87 * new_at clock s t) (place_of t)) ≡ buffer_of clock s t
-        go true q = let r = full (leb-true 64 (new_at clock s t) q) in sym (filed_refused clock s t (λ z. omega (arith, r))).1
+        go true q = let r = full (leb-true 64 (new_at clock s t) q) in sym (filed_refused clock s t unfiled.Full r).1
         go false q =
             let e = accepted_new (leb-false 64 (new_at clock s t) q) in
             written e (new_at clock s t) taken_new (new_kept clock s t e o nowhere)
@@ -146,6 +146,6 @@ module _ (clock : Clock) (s t : List ℕ) (p : Octets s) (o : Octets t) (c : is_
     unfolding new_filed
     new_filed_lem = go (leb 64 (new_at clock s t)) refl
       where
-        go : (u : Bool) → leb 64 (new_at clock s t) ≡ u → cond u (Refused 20) (Count (count card_at (evenly (new_in clock s t)))) ≡ filed_of clock s t
-        go true q = sym ((refused_number clock s t 20 (λ z. omega arith)).1 (full (leb-true 64 (new_at clock s t) q)))
+        go : (u : Bool) → leb 64 (new_at clock s t) ≡ u → cond u (Err unfiled.Full) (Ok (count card_at (evenly (new_in clock s t)))) ≡ filed_of clock s t
+        go true q = sym (filed_refused clock s t unfiled.Full (full (leb-true 64 (new_at clock s t) q))).0
         go false q = counted (accepted_new (leb-false 64 (new_at clock s t) q)) (new_in clock s t) new_left

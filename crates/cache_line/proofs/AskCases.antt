@@ -2,7 +2,8 @@
 -- slip_short, ask_here, ask_none, ask_refused; list_19, list_clock, list_paper, list_marks; same_ask, same_list, same_other;
 -- with_file, with_file_cache, with_same_cache. Filing is in Cases, the answer to an input in InputCases.
 -- Assumes nothing.
-use Prim.Native.Nat.{ℕ, ◌-◌, ◌≤◌}
+use Prim.Native.Nat.{ℕ, ◌≤◌}
+use native.Mathlib.Omega.{arith}
 use mathlib.Core.Path.{◌≡◌, sym, ap, ◌∙◌}
 use mathlib.Core.Bool.{Bool, true, false, not}
 use mathlib.Core.List.{List, []}
@@ -83,14 +84,13 @@ module _ (operation : ℕ) (clock : Clock) (paper s line : List ℕ) (k : ℕ) (
     unfolding reply_with
     same_ask e w = rw (ne_eqb operation 1 h, eq-eqb operation 2 e) w
 
-    module _ (i : operation ≡ 2 → ⊥) where
-      pub same_list : operation ≡ 3 → Wrote line (hex_line (list_reply clock paper s)) k after → Replies
-      unfolding reply_with
-      same_list e w = rw (ne_eqb operation 1 h, ne_eqb operation 2 i, eq-eqb operation 3 e) w
+    pub same_list : operation ≡ 3 → Wrote line (hex_line (list_reply clock paper s)) k after → Replies
+    unfolding reply_with
+    same_list e w = rw (ne_eqb operation 1 h, ne_eqb operation 2 (λ z. omega arith), eq-eqb operation 3 e) w
 
-      pub same_other : (operation ≡ 3 → ⊥) → Wrote line (hex_line (numbered 1)) k after → Replies
-      unfolding reply_with
-      same_other e w = rw (ne_eqb operation 1 h, ne_eqb operation 2 i, ne_eqb operation 3 e) w
+    pub same_other : (operation ≡ 2 → ⊥) → (operation ≡ 3 → ⊥) → Wrote line (hex_line (numbered 1)) k after → Replies
+    unfolding reply_with
+    same_other i e w = rw (ne_eqb operation 1 h, ne_eqb operation 2 i, ne_eqb operation 3 e) w
 
   pub with_file : operation ≡ 1 → Wrote line (hex_line (reply_with 1 clock paper s)) k after → Replies
   with_file e w = rw e w

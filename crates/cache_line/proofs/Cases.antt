@@ -1,8 +1,8 @@
 -- What the code knows at each return of the answer to a filing, and the contract there.
 -- turned, nothing; copy_other, copy_left, copy_filed, copy_holds; told_count, told_refused, told_count_cache, told_nothing;
--- filed_line, filed_cache_lem. Asks, lists and the other operations are in AskCases, the answer to an input in InputCases.
+-- filed_line, filed_cache_lem; copy_cases. Asks, lists and the other operations are in AskCases, the answer to an input in InputCases.
 -- Assumes nothing.
-use Prim.Native.Nat.{ℕ, ◌-◌}
+use Prim.Native.Nat.{ℕ}
 use native.Mathlib.Omega.{arith}
 use mathlib.Core.Path.{◌≡◌, refl, sym, ap, subst, ◌∙◌}
 use mathlib.Core.Bool.{Bool, true, false, cond}
@@ -15,11 +15,12 @@ use Rattle.octets.specs.BufferLaws.{put_in_room, splice_nil}
 use Rattle.octets.specs.Number.{octets_of}
 use Rattle.hexadecimal.specs.Hex.{hex_line}
 use Rattle.freshness.specs.declared.Clock.{Clock}
-use Rattle.cache_rules.specs.declared.Filed.{Filed}
-use Rattle.cache_rules.specs.declared.Filed.TheVariants as filed
+use Rattle.std.specs.Prelude.{Ok, Err}
+use Rattle.cache_rules.specs.declared.Unfiled.{Unfiled}
+use Rattle.cache_rules.specs.declared.Unfiled.TheVariants as unfiled
+use Rattle.cache_rules.specs.Numbers.{Filed, unfiled_number}
 use Rattle.cache_rules.specs.Cache.{is_cache, filed_of, buffer_of}
 use Rattle.cache_rules.proofs.RefusalLaws.{refusal_exactly, refused_number}
-use Rattle.cache_ask.specs.declared.Sought.TheVariants.{Refused}
 use Rattle.cache_line.specs.Reply.{numbered, accepted_reply, filed_reply, filed_cache, reply_with, cache_with}
 use Rattle.cache_line.specs.Wrote.{Wrote, copy_after}
 use Rattle.cache_line.proofs.SayCases.{filled}
@@ -43,11 +44,11 @@ nothing before = record {
 
 module _ (clock : Clock) (s slip : List ℕ) where
   -- octets that are not as many as a cache has
-  other : (length s ≡ 5568 → ⊥) → filed_of clock s slip ≡ filed.Refused 19
+  other : (length s ≡ 5568 → ⊥) → filed_of clock s slip ≡ Err unfiled.NoCache
   unfolding is_cache
-  other h = (refused_number clock s slip 19 (λ z. omega arith)).1 ((refusal_exactly clock s slip).0.1 (rw (ne_eqb (length s) 5568 h)))
+  other h = (refused_number clock s slip unfiled.NoCache).1 ((refusal_exactly clock s slip).0.1 (rw (ne_eqb (length s) 5568 h)))
 
-  pub copy_other : (length s ≡ 5568 → ⊥) → filed.Refused 19 ≡ filed_of clock s slip
+  pub copy_other : (length s ≡ 5568 → ⊥) → Err unfiled.NoCache ≡ filed_of clock s slip
   copy_other h = sym (other h)
 
   pub copy_left : (copy : List ℕ) → (length s ≡ 5568 → ⊥) → copy ≡ copy_after clock s slip copy
@@ -65,23 +66,24 @@ module _ (clock : Clock) (s slip : List ℕ) where
     unfolding copy_after
     copy_holds after q = q ∙ ap (λ (x : List ℕ). buffer_of clock x slip) copied ∙ sym (rw (eq-eqb (length s) 5568 h))
 
-module _ (r : Filed) (n : ℕ) (line after : List ℕ) (k : ℕ) where
-  pub told_count : r ≡ filed.Count n → Wrote line (hex_line (accepted_reply (octets_of 1 n))) k after → Wrote line (hex_line (filed_reply r)) k after
+module _ (r : Filed) (line after : List ℕ) (k : ℕ) where
+  pub told_count : (n : ℕ) → r ≡ Ok n → Wrote line (hex_line (accepted_reply (octets_of 1 n))) k after → Wrote line (hex_line (filed_reply r)) k after
   unfolding filed_reply
-  told_count e w = turned (hex_line (filed_reply r)) (ap (λ (x : Filed). hex_line (filed_reply x)) (sym e)) w
+  told_count n e w = turned (hex_line (filed_reply r)) (ap (λ (x : Filed). hex_line (filed_reply x)) (sym e)) w
 
-  pub told_refused : r ≡ filed.Refused n → Wrote line (hex_line (numbered n)) k after → Wrote line (hex_line (filed_reply r)) k after
+  pub told_refused : (x : Unfiled) → r ≡ Err x → (n : ℕ) → n ≡ unfiled_number x → Wrote line (hex_line (numbered n)) k after → Wrote line (hex_line (filed_reply r)) k after
   unfolding filed_reply
-  told_refused e w = turned (hex_line (filed_reply r)) (ap (λ (x : Filed). hex_line (filed_reply x)) (sym e)) w
+  told_refused x e n q w =
+      turned (hex_line (filed_reply r)) (ap (λ (m : ℕ). hex_line (numbered m)) q ∙ ap (λ (f : Filed). hex_line (filed_reply f)) (sym e)) w
 
-module _ (r : Filed) (n : ℕ) (copy cache : List ℕ) where
-  pub told_count_cache : r ≡ filed.Count n → (k : ℕ) (after : List ℕ) → Wrote cache copy k after → Wrote cache (filed_cache r copy) k after
+module _ (r : Filed) (copy cache : List ℕ) where
+  pub told_count_cache : (n : ℕ) → r ≡ Ok n → (k : ℕ) (after : List ℕ) → Wrote cache copy k after → Wrote cache (filed_cache r copy) k after
   unfolding filed_cache
-  told_count_cache e k after w = turned (filed_cache r copy) (ap (λ (x : Filed). filed_cache x copy) (sym e)) w
+  told_count_cache n e k after w = turned (filed_cache r copy) (ap (λ (x : Filed). filed_cache x copy) (sym e)) w
 
-  pub told_nothing : r ≡ filed.Refused n → Wrote cache (filed_cache r copy) 0 cache
+  pub told_nothing : (x : Unfiled) → r ≡ Err x → Wrote cache (filed_cache r copy) 0 cache
   unfolding filed_cache
-  told_nothing e = turned (filed_cache r copy) (ap (λ (x : Filed). filed_cache x copy) (sym e)) (nothing cache)
+  told_nothing x e = turned (filed_cache r copy) (ap (λ (f : Filed). filed_cache f copy) (sym e)) (nothing cache)
 
 module _ (clock : Clock) (s slip : List ℕ) (r : Filed) (e : r ≡ filed_of clock s slip) where
   pub filed_line : (line : List ℕ) (k : ℕ) (after : List ℕ) → Wrote line (hex_line (filed_reply r)) k after
@@ -104,3 +106,6 @@ module _ (clock : Clock) (s slip : List ℕ) (r : Filed) (e : r ≡ filed_of clo
       go false i =
           let o = other clock s slip (eqb-false (length s) 5568 i) in
           ap (λ (x : Filed). filed_cache x start) o ∙ sym (ap (λ (x : Filed). filed_cache x (buffer_of clock s slip)) o)
+
+-- what filing in a copy needs
+pub ruleset copy_cases = (copy_other, copy_left, copy_filed, copy_holds)

@@ -1,6 +1,6 @@
 -- What the code knows at each return of the answer to an input, and the contract there.
 -- input_new, input_new_cache, input_short, input_short_cache, input_line, input_cache; input_header, input_inside, input_first;
--- replied, line_put, cache_put. The answers to an operation are in Cases.
+-- replied, line_put, cache_put; inside_cases, wrote_cases. The answers to an operation are in Cases.
 -- Assumes nothing.
 use Prim.Native.Nat.{ℕ, ◌+◌, ◌-◌, ◌≤◌, ◌<◌}
 use native.Mathlib.Omega.{arith}
@@ -93,3 +93,9 @@ module _ (s line₀ line cache₀ cache : List ℕ) (r : Reply) (w : Wrote line�
 
   pub cache_put : cache ≡ put_in cache₀ 0 (cache_of s)
   cache_put = x.octets
+
+-- ---- what each function needs
+
+pub ruleset inside_cases = (input_header, input_inside, input_first)
+
+pub ruleset wrote_cases = (replied, line_put, cache_put)

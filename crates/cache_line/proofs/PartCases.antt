@@ -1,7 +1,7 @@
 -- What the code knows at each return of the readers of an input's parts, and the contract there.
--- new_long, new_tested; begins_none, begins_early, begins_there; clock_is.
+-- new_long, new_tested; begins_none, begins_early, begins_there; clock_is; begins_cases.
 -- Assumes nothing.
-use Prim.Native.Nat.{ℕ, ◌+◌, ◌-◌, ◌≤◌, ◌<◌}
+use Prim.Native.Nat.{ℕ, ◌+◌, ◌≤◌, ◌<◌}
 use mathlib.Core.Path.{◌≡◌, sym, ap₂}
 use mathlib.Core.Bool.{false}
 use mathlib.Core.List.{List}
@@ -37,3 +37,5 @@ pub clock_is : (s : List ℕ) (now tolerance : ℕ) → now ≡ value_at s 1 8 �
     → record { now = now; tolerance = tolerance } ≡ clock_in s
 unfolding clock_in
 clock_is s now tolerance e f = ap₂ (λ (a b : ℕ). record { now = a; tolerance = b }) e f
+
+pub ruleset begins_cases = (begins_none, begins_early, begins_there)

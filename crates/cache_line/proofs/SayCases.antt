@@ -1,15 +1,18 @@
 -- What the code knows at each return of the writers of a line, and the contract there.
--- hand_short, hand_room; filled, number_said; body_inside, body_counted, body_said; count_said.
+-- hand_put; filled, number_said; body_inside, body_counted, body_said; count_said.
 -- Assumes nothing.
-use Prim.Native.Nat.{ℕ, zero, suc, ◌+◌, ◌≤◌, ◌<◌}
+use Prim.Native.Nat.{ℕ, zero, suc, ◌+◌, ◌≤◌}
 use native.Mathlib.Omega.{arith}
 use mathlib.Core.Path.{◌≡◌, refl, sym, ap, ◌∙◌}
 use mathlib.Core.List.{List, [], ◌∷◌, ◌++◌, append-nil}
 use lib.ListN.{length, take, drop, replicate}
 use lib.Seq.{length-take-le}
-use borrow.Author.Tests.{lt-ltb, le-ltb}
-use Rattle.octets.specs.Buffer.{put_in, put_size}
-use Rattle.octets.specs.BufferLaws.{put_in_room, put_in_short, put_in_length, splice_front}
+use mathlib.Core.Bool.{Bool, true, false, cond}
+use lib.Dec.{ltb}
+use borrow.Author.Tests.{ltb-true, ltb-false}
+use Rattle.std.specs.Prelude.{Option, unwrap_or}
+use Rattle.octets.specs.Buffer.{put_in, put_answer, put_size}
+use Rattle.octets.specs.BufferLaws.{put_in_room, put_in_length, put_answer_room, put_answer_short, splice_front}
 use Rattle.octets.specs.Number.{octets_of}
 use Rattle.octets.specs.NumberLaws.{octets_length}
 use Rattle.hexadecimal.specs.Hex.{hex_line}
@@ -19,14 +22,16 @@ use Rattle.cache_line.specs.Wrote.{Wrote}
 -- ---- octets handed over
 
 module _ (new out : List ℕ) where
-  pub hand_short : length out < length new → Wrote out new 0 out
-  hand_short h = record {
-    count = sym (rw (lt-ltb (length out) (length new) h));
-    octets = sym (put_in_short out 0 new (omega arith));
-  }
+  handed : unwrap_or (put_answer (length out) 0 (length new)) 0 ≡ put_size out new
+  handed = go (ltb (length out) (length new)) refl
+    where
+      go : (b : Bool) → ltb (length out) (length new) ≡ b → unwrap_or (put_answer (length out) 0 (length new)) 0 ≡ cond b 0 (length new)
+      go true q = rw (put_answer_short (length out) 0 (length new) (omega (arith, ltb-true (length out) (length new) q)))
+      go false q = rw (put_answer_room (length out) 0 (length new) (omega (arith, ltb-false (length out) (length new) q))) (omega arith)
 
-  pub hand_room : length new ≤ length out → (after : List ℕ) → after ≡ put_in out 0 new → Wrote out new (length new) after
-  hand_room h after e = record { count = sym (rw (le-ltb (length out) (length new) h)); octets = e }
+  pub hand_put : (x : Option ℕ) → x ≡ put_answer (length out) 0 (length new) → (n : ℕ) → n ≡ unwrap_or x 0
+      → (after : List ℕ) → after ≡ put_in out 0 new → Wrote out new n after
+  hand_put x e n q after f = record { count = q ∙ ap (λ (y : Option ℕ). unwrap_or y 0) e ∙ handed; octets = f }
 
 -- a line that hex wrote is that of other octets that are the same
 hexed : (reply other line : List ℕ) → reply ≡ other → (n : ℕ) (after : List ℕ)

@@ -1,5 +1,6 @@
 -- What the code knows of the marks: at each return of a place's mark, and at each turn of the loop.
--- mark_empty, mark_early, mark_late, mark_counts; Marked, marked_start, marked_next, marked_end.
+-- mark_empty, mark_early, mark_late, mark_counts; Marked, marked_start, marked_next, marked_end; mark_cases,
+-- marked_turns.
 -- Assumes nothing.
 use Prim.Native.Nat.{ℕ, suc, ◌+◌, ◌≤◌, ◌<◌}
 use native.Mathlib.Numerals.{add-one}
@@ -49,21 +50,20 @@ module _ (p : List ℕ) (clock : Clock) (card : List ℕ) (e : card ≡ card_at 
 
 module _ (s : List ℕ) (clock : Clock) where
   unfoldable pub Marked : List ℕ → ℕ → Type 0
-  Marked marks i = (i ≤ 64) × (length marks ≡ 64) × (marks_of clock (evenly s) ≡ take i marks ++ marks_of clock (drop i (evenly s)))
+  Marked marks i = (length marks ≡ 64) × (marks_of clock (evenly s) ≡ take i marks ++ marks_of clock (drop i (evenly s)))
 
   pub marked_start : Marked (replicate 64 0) 0
   unfolding Marked
-  marked_start = (omega arith, refl, refl)
+  marked_start = (refl, refl)
 
   module _ (marks : List ℕ) (i : ℕ) (k : Marked marks i) where
     pub marked_next : i < 64 → (p : List ℕ) → p ≡ get_or (evenly s) i [] → (mark : ℕ) → mark ≡ mark_at clock p
         → Marked (set marks i mark) (i + 1)
     unfolding Marked marks_of
     marked_next h p e mark f =
-        let l : i < length marks = omega (arith, k.1) in (
-          omega arith,
-          length-set marks i mark ∙ k.1,
-          k.2
+        let l : i < length marks = omega (arith, k.0) in (
+          length-set marks i mark ∙ k.0,
+          k.1
               ∙ ap (λ (r : List (List ℕ)). take i marks ++ marks_of clock r) (drop-cons (evenly s) i [] (omega (arith, even_length s)))
               ∙ ap (λ (m : ℕ). take i marks ++ (m ∷ marks_of clock (drop (suc i) (evenly s)))) (ap (mark_at clock) (sym e) ∙ sym f)
               ∙ sym (append_assoc (take i marks) (mark ∷ []) (marks_of clock (drop (suc i) (evenly s))))
@@ -75,7 +75,13 @@ module _ (s : List ℕ) (clock : Clock) where
     unfolding Marked marks_of
     marked_end h =
         sym
-        (k.2
+        (k.1
         ∙ ap (λ (r : List (List ℕ)). take i marks ++ marks_of clock r) (drop_of_length-le (evenly s) {i = i} (omega (arith, even_length s)))
         ∙ append-nil (take i marks)
-        ∙ take_all i marks (omega (arith, k.1)))
+        ∙ take_all i marks (omega (arith, k.0)))
+
+-- ---- what a place's mark needs, and the loop
+
+pub ruleset mark_cases = (mark_empty, mark_early, mark_late, mark_counts)
+
+pub ruleset marked_turns = (marked_start, marked_next, marked_end)

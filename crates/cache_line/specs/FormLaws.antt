@@ -1,7 +1,7 @@
 -- An input that is written in order is read as its parts.
 -- form_clock, form_begins, form_paper, form_cache; form_reply, form_follows.
 -- The parts are in Input, the answer in Reply. Assumes nothing.
-use Rattle.std.specs.Prelude.{ℕ, ◌+◌, ◌-◌, ◌^◌, ◌≤◌, ◌<◌, ◌≡◌, refl, false, get_or, take, drop}
+use Rattle.std.specs.Prelude.{ℕ, ◌+◌, ◌-◌, ◌^◌, ◌<◌, ◌≡◌, refl, false, get_or, take, drop}
 use native.Mathlib.Omega.{arith}
 use Rattle.std.proofs.Common.{sym, ◌∙◌, lit≤, length-append, take_at, drop-drop, get_or-drop}
 use Rattle.std.proofs.Math.Path.{ap, ap₂}

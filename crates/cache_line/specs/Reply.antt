@@ -4,13 +4,12 @@
 -- The number is 0 for none, a refusal's, or 256 for a card that is not held. The input's parts are in Input; that a beginning
 -- of an input that is long enough is answered as the whole is in WholeLaws; that the line tells what asking gives is in ToldLaws.
 -- Assumes nothing.
-use Rattle.std.specs.Prelude.{ℕ, ◌*◌, cond, List, [], ◌∷◌, eqb, ltb, length, get_or, replicate}
+use Rattle.std.specs.Prelude.{ℕ, ◌*◌, cond, List, [], ◌∷◌, eqb, ltb, length, get_or, replicate, Ok, Err}
 use Rattle.octets.specs.Number.{octets_of}
 use Rattle.hexadecimal.specs.Hex.{hex_line}
 use Rattle.freshness.specs.declared.Clock.{Clock}
 use Rattle.freshness.specs.Clock.{clock_ok}
-use Rattle.cache_rules.specs.declared.Filed.{Filed}
-use Rattle.cache_rules.specs.declared.Filed.TheVariants as filed
+use Rattle.cache_rules.specs.Numbers.{Filed, unfiled_number}
 use Rattle.cache_rules.specs.Place.{width, places, slip_in}
 use Rattle.cache_rules.specs.Cache.{is_cache, filed_of, buffer_of}
 use Rattle.cache_places.specs.Evenly.{evenly}
@@ -33,13 +32,13 @@ accepted_reply body = 0 ∷ 0 ∷ body
 
 -- 01, a filing: how many places are then not empty
 unfoldable pub filed_reply : Filed → List ℕ
-filed_reply (filed.Count n) = accepted_reply (octets_of 1 n)
-filed_reply (filed.Refused n) = numbered n
+filed_reply (Ok n) = accepted_reply (octets_of 1 n)
+filed_reply (Err e) = numbered (unfiled_number e)
 
 -- and the cache as it is then; none where it is refused
 unfoldable pub filed_cache : Filed → List ℕ → List ℕ
-filed_cache (filed.Count n) s = s
-filed_cache (filed.Refused n) s = []
+filed_cache (Ok n) s = s
+filed_cache (Err e) s = []
 
 -- 02, an ask: the slip that the card's place holds
 unfoldable pub found_reply : List ℕ → Sought → List ℕ

@@ -3,7 +3,7 @@
 -- `reply_of` is the octets whose hex is the line, `cache_of` the octets that follow it, `input_form` an input written in order.
 -- A clock's numbers are below 2 ^ 64, `Octets` are below 256, and a card is `Sized`: so is every value in code.
 -- Assumes nothing.
-use Rattle.std.specs.Prelude.{ℕ, ◌-◌, ◌^◌, ◌<◌, ◌⊎◌, ◌≡◌, refl, Bool, true, false, cond, eqb, get_or, drop}
+use Rattle.std.specs.Prelude.{ℕ, ◌-◌, ◌^◌, ◌<◌, ◌⊎◌, ◌≡◌, refl, Bool, true, false, cond, eqb, get_or, drop, Ok, Err}
 use Rattle.std.proofs.Common.{inl, inr, ◌∙◌}
 use mathlib.Core.List.{List, [], ◌∷◌}
 use Rattle.octets.specs.Octets.{Octets}
@@ -13,8 +13,7 @@ use Rattle.freshness.specs.Clock.{clock_ok}
 use Rattle.answer.specs.declared.Card.{Card}
 use Rattle.slip.specs.Slip.{Sized}
 use Rattle.cache_rules.specs.Examples.{cache_computes}
-use Rattle.cache_rules.specs.declared.Filed.{Filed}
-use Rattle.cache_rules.specs.declared.Filed.TheVariants.{Count, Refused}
+use Rattle.cache_rules.specs.Numbers.{Filed}
 use Rattle.cache_rules.specs.Cache.{room_of, is_cache, filed_of, buffer_of, ask_of}
 use Rattle.cache_rules.proofs.CacheLaws.{cache_exactly}
 use Rattle.cache_rules.proofs.RefusalLaws.{count_accepted}
@@ -71,8 +70,8 @@ follows_fits l o = go (is_new l) (eqb (begins_at l) 0) (eqb (get_or l 0 0) 1)
 
     filing : (clock : Clock) (s t : List ℕ) → Octets t → (r : Filed) → filed_of clock s t ≡ r
         → (filed_cache r (buffer_of clock s t) ≡ []) ⊎ (is_cache (filed_cache r (buffer_of clock s t)) ≡ true)
-    filing clock s t o (Refused n) e = inl refl
-    filing clock s t o (Count n) e = inr (after_cache clock s t (count_accepted clock s t n e) o)
+    filing clock s t o (Err x) e = inl refl
+    filing clock s t o (Ok n) e = inr (after_cache clock s t (count_accepted clock s t n e) o)
 
     go : (x y z : Bool) → (cond x new_cache (cond y [] (cond z after [])) ≡ []) ⊎ (is_cache (cond x new_cache (cond y [] (cond z after []))) ≡ true)
     go true y z = inr new_fits

@@ -1,7 +1,7 @@
 -- How long an answer may be, and that a buffer with that much room holds all of it.
 -- line_most, cache_most; slip_most, line_most_lem, cache_most_lem; wrote_inside, wrote_all.
 -- Assumes nothing.
-use Rattle.std.specs.Prelude.{ℕ, suc, ◌+◌, ◌*◌, ◌≤◌, ◌≡◌, refl, Bool, true, false, cond, List, [], ◌∷◌, eqb, ltb, length, get_or, take, drop}
+use Rattle.std.specs.Prelude.{ℕ, suc, ◌+◌, ◌*◌, ◌≤◌, ◌≡◌, refl, Bool, true, false, cond, List, [], ◌∷◌, eqb, ltb, length, get_or, take, drop, Ok, Err}
 use Rattle.std.proofs.Common.{arith, ⊎_elim, ap, ap₂, ◌∙◌, lit≤, length-take, take_at, le-ltb, ltb-false}
 use Rattle.octets.specs.Octets.{Octets}
 use Rattle.octets.specs.BufferLaws.{put_in_room, put_in_length}
@@ -13,8 +13,7 @@ use Rattle.freshness.specs.declared.Clock.{Clock}
 use Rattle.freshness.specs.Clock.{clock_ok}
 use Rattle.slip.specs.Table.{good_row, revoked_row, unknown_row, refusal_row, no_row, row_of, row_in, body_size, size_of}
 use Rattle.slip.specs.Numbers.{total}
-use Rattle.cache_rules.specs.declared.Filed.{Filed}
-use Rattle.cache_rules.specs.declared.Filed.TheVariants as filed
+use Rattle.cache_rules.specs.Numbers.{Filed, unfiled_number}
 use Rattle.cache_rules.specs.Place.{width, places, kind_at, slip_in, slip_size}
 use Rattle.cache_rules.specs.Cache.{is_cache, filed_of}
 use Rattle.cache_rules.proofs.CacheLaws.{cache_exactly}
@@ -72,8 +71,8 @@ marks_length clock (p ∷ l) = ap suc (marks_length clock l)
 
 filed_size : (r : Filed) → length (filed_reply r) ≤ 89
 unfolding filed_reply
-filed_size (filed.Count n) = body_size_lem (octets_of 1 n) (omega (arith, octets_length 1 n))
-filed_size (filed.Refused n) = number_size n
+filed_size (Ok n) = body_size_lem (octets_of 1 n) (omega (arith, octets_length 1 n))
+filed_size (Err e) = number_size (unfiled_number e)
 
 found_size : (s : List ℕ) (f : Sought) → length (found_reply s f) ≤ 89
 unfolding found_reply

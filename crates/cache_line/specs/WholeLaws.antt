@@ -2,7 +2,7 @@
 -- longer than 5,568 octets either way, and the answer is 19 or 1 whatever its octets are.
 -- kept_same_reply, kept_same_cache.
 -- What is kept is in crate desk_intake (Kept), the room in Input, the answer in Reply. Assumes nothing.
-use Rattle.std.specs.Prelude.{ℕ, ◌+◌, ◌*◌, ◌≤◌, ◌<◌, ◌≡◌, Bool, eqb, leb, length}
+use Rattle.std.specs.Prelude.{ℕ, ◌+◌, ◌*◌, ◌≤◌, ◌<◌, ◌≡◌, Bool, eqb, leb, length, Err}
 use Rattle.std.proofs.Common.{arith, sym, ◌∙◌}
 use Rattle.std.proofs.Math.Path.{refl, ap}
 use Rattle.std.proofs.Math.Bool.{true, false, cond}
@@ -15,8 +15,8 @@ use Rattle.octets.specs.OctetsLaws.{octets_at}
 use Rattle.freshness.specs.declared.Clock.{Clock}
 use Rattle.desk_intake.specs.Kept.{kept_of}
 use Rattle.desk_intake.specs.KeptLaws.{kept_all}
-use Rattle.cache_rules.specs.declared.Filed.{Filed}
-use Rattle.cache_rules.specs.declared.Filed.TheVariants as filed
+use Rattle.cache_rules.specs.declared.Unfiled.TheVariants as unfiled
+use Rattle.cache_rules.specs.Numbers.{Filed}
 use Rattle.cache_rules.specs.Place.{width, places}
 use Rattle.cache_rules.specs.Cache.{is_cache, filed_of, buffer_of}
 use Rattle.cache_rules.proofs.RefusalLaws.{refusal_exactly, refused_number}
@@ -36,8 +36,8 @@ module _ (operation : ℕ) (clock : Clock) (paper s : List ℕ) (h : width * pla
   unfolding is_cache
   none = rw (ne_eqb (length s) (width * places) (λ e. omega arith))
 
-  filing : filed_of clock s paper ≡ filed.Refused 19
-  filing = (refused_number clock s paper 19 (λ z. omega arith)).1 ((refusal_exactly clock s paper).0.1 none)
+  filing : filed_of clock s paper ≡ Err unfiled.NoCache
+  filing = (refused_number clock s paper unfiled.NoCache).1 ((refusal_exactly clock s paper).0.1 none)
 
   asking : ask_found clock paper s ≡ Refused 19
   unfolding ask_found

@@ -10,7 +10,7 @@ ghost use Rattle.cache_line.specs.Wrote.{Wrote, copy_after};
 
 use crate::{CACHE, Reply, lists, parts, says};
 use cache_ask::Sought;
-use cache_rules::Filed;
+use cache_rules::{Filed, Unfiled};
 use freshness::Clock;
 
 // Answers with an empty cache.
@@ -19,22 +19,21 @@ fn make_new(line: &mut [u8], cache: &mut [u8]) -> Reply
     ensures wrote_2 { Wrote cache.old new_cache result.cache cache.new }
 {
     let zeros = [0u8; CACHE];
-    let said = says::say_number(0, line);
-    let handed = says::hand(&zeros, cache);
     Reply {
-        line: said,
-        cache: handed,
+        line: says::say_number(0, line),
+        cache: says::hand(&zeros, cache),
     }
 }
 
 // Files a slip in a copy of a cache, which stays as it was where the octets are not as many as a cache has.
+#[tactic(auto, using(crate::proofs::Cases::copy_cases))]
 fn file_copy(s: &[u8], slip: &[u8], clock: Clock, copy: &mut [u8]) -> Filed
     requires { length copy.old ≡ 5568 }
     ensures value { result ≡ filed_of clock s.now slip.now }
     ensures copy_after { copy.new ≡ copy_after clock s.now slip.now copy.old }
 {
     if s.len() != CACHE {
-        return Filed::Refused(19);
+        return Err(Unfiled::NoCache);
     }
     octets::put(copy, 0, s);
     cache_file::file(copy, slip, clock)
@@ -46,21 +45,14 @@ fn tell_filed(filed: Filed, copy: &[u8], line: &mut [u8], cache: &mut [u8]) -> R
     ensures wrote_2 { Wrote cache.old (filed_cache filed copy.now) result.cache cache.new }
 {
     match filed {
-        Filed::Count(count) => {
-            let said = says::say_count(count, line);
-            let handed = says::hand(copy, cache);
-            Reply {
-                line: said,
-                cache: handed,
-            }
-        }
-        Filed::Refused(number) => {
-            let said = says::say_number(number as u64, line);
-            Reply {
-                line: said,
-                cache: 0,
-            }
-        }
+        Ok(count) => Reply {
+            line: says::say_count(count, line),
+            cache: says::hand(copy, cache),
+        },
+        Err(unfiled) => Reply {
+            line: says::say_number(unfiled.number() as u64, line),
+            cache: 0,
+        },
     }
 }
 
@@ -75,12 +67,12 @@ fn answer_file(s: &[u8], slip: &[u8], clock: Clock, line: &mut [u8], cache: &mut
 }
 
 // Asks the cache for the card that the paper is: the slip of its place, or a number.
+#[tactic(auto, using(crate::proofs::AskCases::slip_short))]
 fn answer_ask(s: &[u8], card: &[u8], clock: Clock, line: &mut [u8]) -> usize
     ensures { Wrote line.old (hex_line (found_reply s.now (ask_found clock card.now s.now))) result
         line.new }
 {
-    let found = cache_ask::find(s, card, clock);
-    match found {
+    match cache_ask::find(s, card, clock) {
         Sought::At(i) => {
             let p = cache_places::place_at(s, i);
             let slip = cache_place::slip_at(p);
@@ -113,13 +105,11 @@ fn answer_same(operation: u8, s: &[u8], paper: &[u8], clock: Clock, line: &mut [
     requires { operation ≡ 1 → ⊥ }
     ensures { Wrote line.old (hex_line (reply_with operation clock paper.now s.now)) result line.new }
 {
-    if operation == 2 {
-        return answer_ask(s, paper, clock, line);
+    match operation {
+        2 => answer_ask(s, paper, clock, line),
+        3 => answer_list(s, paper, clock, line),
+        _ => says::say_number(1, line),
     }
-    if operation == 3 {
-        return answer_list(s, paper, clock, line);
-    }
-    says::say_number(1, line)
 }
 
 // Answers an operation with its paper and the cache.
@@ -137,14 +127,14 @@ fn answer_with(
     if operation == 1 {
         return answer_file(s, paper, clock, line, cache);
     }
-    let said = answer_same(operation, s, paper, clock, line);
     Reply {
-        line: said,
+        line: answer_same(operation, s, paper, clock, line),
         cache: 0,
     }
 }
 
 // Writes the answer to an input, line and cache.
+#[tactic(auto, using(crate::proofs::InputCases::inside_cases))]
 fn reply_for(input: &[u8], line: &mut [u8], cache: &mut [u8]) -> Reply
     ensures wrote { Wrote line.old (hex_line (reply_of input.now)) result.line line.new }
     ensures wrote_2 { Wrote cache.old (cache_of input.now) result.cache cache.new }
@@ -154,9 +144,8 @@ fn reply_for(input: &[u8], line: &mut [u8], cache: &mut [u8]) -> Reply
     }
     let at = parts::begins_at(input);
     if at == 0 {
-        let said = says::say_number(1, line);
         return Reply {
-            line: said,
+            line: says::say_number(1, line),
             cache: 0,
         };
     }
@@ -167,6 +156,7 @@ fn reply_for(input: &[u8], line: &mut [u8], cache: &mut [u8]) -> Reply
 // Writes the line of an input at the start of a buffer, and the cache that follows it at the start of
 // another: how many octets of each. Where there is no room for one of them, it is 0, and its buffer is as
 // it was.
+#[tactic(auto, using(crate::proofs::InputCases::wrote_cases))]
 pub fn answer_for(input: &[u8], line: &mut [u8], cache: &mut [u8]) -> Reply
     ensures value { result ≡ replied_to (length line.old) (length cache.old) input.now }
     ensures line_after { line.new ≡ put_in line.old 0 (hex_line (reply_of input.now)) }

@@ -6,11 +6,12 @@ ghost use Rattle.cache_line.specs.Marks.{mark_at, marks_of};
 use freshness::Clock;
 
 // The mark of a place at a time.
+#[tactic(auto, using(crate::proofs::Turns::mark_cases))]
 fn mark_at(p: &[u8], clock: Clock) -> u8
     ensures { result ≡ mark_at clock p.now }
 {
     let card = cache_place::card_at(p);
-    if card.len() == 0 {
+    if card.is_empty() {
         return 0;
     }
     let this = cache_place::this_at(p);
@@ -24,15 +25,14 @@ fn mark_at(p: &[u8], clock: Clock) -> u8
 }
 
 // The marks of the places, in order.
+#[tactic(auto, using(crate::proofs::Turns::marked_turns))]
 pub(crate) fn marks_of(s: &[u8], clock: Clock) -> [u8; 64]
     ensures { result ≡ marks_of clock (evenly s.now) }
 {
     let mut marks = [0u8; cache_rules::PLACES];
-    let mut i = 0;
-    while i < 64 {
+    for i in 0..64 {
         let p = cache_places::place_at(s, i);
         marks[i] = mark_at(p, clock);
-        i += 1;
     }
     marks
 }

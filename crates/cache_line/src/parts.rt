@@ -6,16 +6,15 @@ ghost use Rattle.cache_line.specs.Input.{is_new, clock_in, begins_at};
 use freshness::Clock;
 
 // Whether an input is that of a new cache: the operation 00 alone.
+#[tactic(auto, using(crate::proofs::PartCases::new_long, crate::proofs::PartCases::new_tested))]
 pub(crate) fn is_new(input: &[u8]) -> bool
     ensures { result ≡ is_new input.now }
 {
-    if input.len() != 1 {
-        return false;
-    }
-    input[0] == 0
+    input.len() == 1 && input[0] == 0
 }
 
 // Where the cache begins; 0 where the input ends before that.
+#[tactic(auto, using(crate::proofs::PartCases::begins_cases))]
 pub(crate) fn begins_at(input: &[u8]) -> usize
     ensures { result ≡ begins_at input.now }
 {
@@ -30,6 +29,7 @@ pub(crate) fn begins_at(input: &[u8]) -> usize
 }
 
 // The time and the tolerance.
+#[tactic(auto, using(crate::proofs::PartCases::clock_is))]
 pub(crate) fn clock_in(input: &[u8]) -> Clock
     ensures { result ≡ clock_in input.now }
 {

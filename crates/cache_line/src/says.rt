@@ -9,11 +9,7 @@ ghost use Rattle.cache_line.specs.Wrote.{Wrote};
 pub(crate) fn hand(new: &[u8], out: &mut [u8]) -> usize
     ensures { Wrote out.old new.now result out.new }
 {
-    if out.len() < new.len() {
-        return 0;
-    }
-    octets::put(out, 0, new);
-    new.len()
+    octets::put(out, 0, new).unwrap_or(0)
 }
 
 // Writes the line of a number: four digits.
@@ -26,6 +22,7 @@ pub(crate) fn say_number(number: u64, line: &mut [u8]) -> usize
 }
 
 // Writes the line of the number 0 and of octets after it, no more than a place has.
+#[tactic(auto, using(crate::proofs::SayCases::body_counted))]
 pub(crate) fn say_body(body: &[u8], line: &mut [u8]) -> usize
     requires { length body.now ≤ 87 }
     ensures { Wrote line.old (hex_line (accepted_reply body.now)) result line.new }

@@ -89,3 +89,9 @@ module _ (p : List ℕ) where
     pub slip_whole : take size p ≡ slip_in p
     unfolding slip_in
     slip_whole = ap (λ (n : ℕ). take n p) q
+
+-- ---- what each function needs
+
+pub ruleset card_cases = (card_none, card_empty, card_short, card_whole)
+
+pub ruleset slip_cases = (slip_none, slip_short, slip_counted, slip_whole)

@@ -125,3 +125,9 @@ module _ (p : List ℕ) where
         pub place_tail : not b ≡ false → (t : Bool) → t ≡ all_zero (drop (length slip) p) → t ≡ place_ok p
         unfolding place_ok says_at
         place_tail f t g = sym (rw (filled, ← e, ← r, not-false b f) (sym (g ∙ ap all_zero cut.1)))
+
+-- ---- what each function needs
+
+pub ruleset rest_cases = (rest_none, rest_any, rest_other, rest_last)
+
+pub ruleset place_cases = (place_none, place_zero, end_inside, place_broken, place_tail)

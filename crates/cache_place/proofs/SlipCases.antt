@@ -3,6 +3,7 @@
 -- slip_other, slip_size_lem, slip_room, slip_rules. Places are in Cases.
 -- Assumes nothing.
 use Prim.Native.Nat.{ℕ, suc, ◌≤◌}
+use Rattle.std.specs.Prelude.{Some}
 use native.Mathlib.Omega.{arith}
 use mathlib.Core.Path.{◌≡◌, refl, sym, ap, ◌∙◌}
 use mathlib.Core.Bool.{Bool, true, false, not}
@@ -12,7 +13,6 @@ use lib.ListN.{length, get_or}
 use borrow.Author.Tests.{le-leb, eq-eqb, ne_eqb, eqb-true, eqb-false, not-true, not-false}
 use Rattle.calendar.specs.Time.{last_second}
 use Rattle.octets.specs.SameLaws.{impossible}
-use Rattle.answer.specs.declared.Reason.TheVariants.{Given}
 use Rattle.fields.specs.Field.{value_at}
 use Rattle.slip.specs.Numbers.{total}
 use Rattle.slip.specs.Rules.{times_ok, reason_fits}
@@ -60,7 +60,7 @@ module _ (t : List ℕ) where
       unfolding end_fits reason_from reason_fits
       end_absent e = sym (rw (← in_time, not-false b h, eq-eqb (get_or t 86 0) 255 e))
 
-      pub end_given : (get_or t 86 0 ≡ 255 → ⊥) → (r : Bool) → r ≡ reason_fits (Given (get_or t 86 0)) → r ≡ end_fits t
+      pub end_given : (get_or t 86 0 ≡ 255 → ⊥) → (r : Bool) → r ≡ reason_fits (Some (get_or t 86 0)) → r ≡ end_fits t
       unfolding end_fits reason_from
       end_given e r g = g ∙ sym (rw (← in_time, not-false b h, ne_eqb (get_or t 86 0) 255 e))
 
@@ -120,3 +120,11 @@ module _ (t : List ℕ) where
         slip_room =
             let r = room (get_or t 0 0) (sym p ∙ not-false b h) in
             (rw (e, q) r.0, λ k. rw (e, q) (r.1 k))
+
+-- ---- what each function needs
+
+pub ruleset end_cases = (end_late, end_absent, end_given)
+
+pub ruleset rule_cases = (rule_room, rule_serial, rule_times, rule_short, rule_end)
+
+pub ruleset said_cases = (slip_none, slip_other, slip_size_lem, slip_room, slip_rules)

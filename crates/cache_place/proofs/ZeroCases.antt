@@ -48,3 +48,6 @@ zeros_same (x ∷ s) h e b q =
     ∙ ap (λ (z : ℕ). same_of s (take (length s) (z ∷ s))) e
     ∙ behind s
     ∙ sym (rw (eq-eqb x 0 e))
+
+-- what the function needs
+pub ruleset zero_cases = (zeros_none, zeros_first, zeros_counted, zeros_same)

@@ -3,7 +3,7 @@
 -- The definitions are in Said. Assumes nothing.
 use Prim.Native.Nat.{ℕ, suc, ◌+◌, ◌≤◌}
 use Rattle.std.proofs.Common.{arith, ◌∙◌, lit≤}
-use Rattle.std.specs.Prelude.{◌≡◌, Bool, List, [], ◌∷◌, leb, length, get_or, drop}
+use Rattle.std.specs.Prelude.{◌≡◌, Bool, List, [], ◌∷◌, leb, length, get_or, drop, Option}
 use Rattle.std.proofs.Math.Path.{refl, sym, ap, ap₂}
 use Rattle.std.proofs.Math.Bool.{true, false, cond}
 use Rattle.std.proofs.Math.Dec.{eqb}
@@ -11,7 +11,6 @@ use borrow.Author.Tests.{eqb-true, eqb-false, eq-eqb, ne_eqb}
 use Rattle.calendar.specs.Time.{last_second}
 use Rattle.answer.specs.declared.Card.{Card}
 use Rattle.answer.specs.declared.Answer.{Answer}
-use Rattle.answer.specs.declared.Reason.{Reason}
 use Rattle.answer.specs.declared.Verdict.{Verdict}
 use Rattle.answer.specs.declared.Verdict.TheVariants.{Good, Revoked, Unknown, Refused}
 use Rattle.answer.specs.Card.{field_ok, card_ok}
@@ -69,7 +68,7 @@ module _ (this next : ℕ) (card : Card) where
   unfolding slip_ok card_fits is_said row_of row_in verdict_ok
   said_unknown = swap (times_ok this next) (card_ok card)
 
-  said_revoked : (at : ℕ) (reason : Reason) → said (saying (Revoked this next at reason) card)
+  said_revoked : (at : ℕ) (reason : Option ℕ) → said (saying (Revoked this next at reason) card)
       ≡ cond (card_ok card) (cond (times_ok this next) (cond (leb at last_second) (reason_fits reason) false) false) false
   unfolding slip_ok card_fits is_said row_of row_in verdict_ok
   said_revoked at reason = swap (cond (times_ok this next) (cond (leb at last_second) (reason_fits reason) false) false) (card_ok card)

@@ -1,7 +1,7 @@
 -- The octets at the places of the times are the times that the slip says, whatever follows it.
 -- slip_times, place_times, late_stale.
 -- The definitions are in Times. Assumes nothing.
-use Rattle.std.specs.Prelude.{ℕ, ◌+◌, ◌≤◌, ◌<◌, ◌≡◌, refl, Bool, true, false, cond, leb, length, take, drop}
+use Rattle.std.specs.Prelude.{ℕ, ◌≤◌, ◌<◌, ◌≡◌, refl, Bool, true, false, cond, leb, length, take, drop}
 use Rattle.std.proofs.Common.{arith, sym, ◌∙◌, lit≤, length-append, take-append-drop, take_at, drop_at, drop-drop, leb-true}
 use Rattle.std.proofs.Math.Path.{ap}
 use mathlib.Core.List.{List, [], ◌∷◌, ◌++◌, append_assoc}

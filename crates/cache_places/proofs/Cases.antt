@@ -1,6 +1,6 @@
 -- What the code knows at each return, and what follows there.
 -- place_none, place_start, place_end, place_inside, place_there; no_octets, some_octets; free_empty, free_late; more_empty, more_filled; mark_is;
--- held_whole; room_length, room_broken, room_fit.
+-- held_whole; room_length, room_broken, room_fit; place_cases, room_cases.
 -- Assumes nothing.
 use Prim.Native.Nat.{ℕ, suc, ◌+◌, ◌-◌, ◌*◌, ◌/◌, ◌%◌, ◌^◌, ◌≤◌, ◌<◌}
 use native.Mathlib.Nat.{mul-le-mul_left, mul-suc}
@@ -100,3 +100,9 @@ module _ (s : List ℕ) where
     pub room_fit : not b ≡ false → (r : Bool) → r ≡ cards_once card_at (evenly s) → r ≡ is_cache s
     unfolding is_cache
     room_fit t r g = sym (rw (eq-eqb (length s) 5568 h, ← even_room s h, ← e, not-false b t) (sym g))
+
+-- ---- what a place and the whole buffer need
+
+pub ruleset place_cases = (place_none, place_inside, place_start, place_end, place_there)
+
+pub ruleset room_cases = (room_length, room_broken, room_fit)

@@ -1,5 +1,6 @@
 -- No card twice: what one place more tells, by the marks that were met and by the cards themselves.
--- lone_empty, marks_empty; lone_met; mark_inside, marks_next, lone_new; Apart, apart_start, marks_start, apart_stop, apart_next, apart_end.
+-- lone_empty, marks_empty; lone_met; mark_inside, marks_next, lone_new; Apart, apart_start, marks_start, apart_stop, apart_next,
+-- apart_end; lone_cases, apart_turns.
 -- Assumes nothing.
 use Prim.Native.Nat.{ℕ, suc, ◌+◌, ◌≤◌, ◌<◌}
 use native.Mathlib.Nat.{not-suc-le-zero, mod-lt}
@@ -55,7 +56,7 @@ module _ (s : List ℕ) (i : ℕ) (b : i < 64) (marks : List ℕ) (m : Marked (e
     unfolding lone_of
     lone_met n at h = sym (rw (own, some_octets card n, ← h))
 
-    module _ (n : length card ≡ 0 → ⊥) (mark : ℕ) (g : mark ≡ mark_of card) where
+    module _ (mark : ℕ) (g : mark ≡ mark_of card) where
       pub mark_inside : mark < length marks
       mark_inside = omega (arith, mark_lt card, m.size)
 
@@ -81,7 +82,7 @@ module _ (s : List ℕ) (i : ℕ) (b : i < 64) (marks : List ℕ) (m : Marked (e
                   at true r = absurd (d (ap (λ (k : ℕ). mark_of (card_at (get_or (evenly s) k []))) (eqb-true j i r) ∙ ap mark_of own ∙ sym g))
                   at false r = omega (arith, eqb-false j i r)
 
-      module _ (met : ℕ) (q : met ≡ get_or marks mark 0) where
+      module _ (n : length card ≡ 0 → ⊥) (met : ℕ) (q : met ≡ get_or marks mark 0) where
         -- a mark that was not met: no place before has the card
         pub lone_new : met ≡ 0 → true ≡ lone_of (evenly s) i
         unfolding lone_of
@@ -172,3 +173,9 @@ module _ (s : List ℕ) where
   pub apart_end : (i : ℕ) → 64 ≤ i → Apart i → true ≡ cards_once card_at (evenly s)
   unfolding Apart
   apart_end i h a = sym (single_from card_at [] (evenly s) (λ j k p q. a j k (omega (arith, even_length s)) (omega (arith, even_length s))))
+
+-- ---- what one place needs, and the loop
+
+pub ruleset lone_cases = (lone_empty, marks_empty, mark_inside, lone_new, lone_met)
+
+pub ruleset apart_turns = (apart_start, marks_start, apart_stop, apart_next, apart_end)

@@ -1,6 +1,7 @@
 -- What one turn of each loop does: i places were looked at.
 -- first_stop, first_next, first_end; held_start, held_stop, held_next, held_end; free_start, free_stop, free_next, free_end;
--- fit_start, fit_stop, fit_next, fit_end; count_start, count_room, count_next, count_end.
+-- fit_start, fit_stop, fit_next, fit_end; count_start, count_room, count_next, count_end; held_turns, free_turns, fit_turns,
+-- count_turns.
 -- Assumes nothing.
 use Prim.Native.Nat.{ℕ, suc, ◌+◌, ◌≤◌, ◌<◌}
 use native.Mathlib.Nat.{le_antisymm}
@@ -48,11 +49,11 @@ module _ (s c : List ℕ) (n : ℕ) where
 
   -- what the loop knows
   unfoldable pub Held : ℕ → Type 0
-  Held i = (i ≤ n) × (first_at (has_card card_at c) among ≡ i + first_at (has_card card_at c) (drop i among))
+  Held i = first_at (has_card card_at c) among ≡ i + first_at (has_card card_at c) (drop i among)
 
   pub held_start : Held 0
   unfolding Held
-  held_start = (omega arith, omega arith)
+  held_start = omega arith
 
   module _ (m : n ≤ 64) (i : ℕ) (k : Held i) where
     size : length among ≡ n
@@ -64,17 +65,17 @@ module _ (s c : List ℕ) (n : ℕ) where
 
       pub held_stop : b ≡ true → i ≡ held_at card_at c among
       unfolding Held held_at
-      held_stop t = first_stop (has_card card_at c) among [] i k.1 (omega (arith, size)) (test ∙ t)
+      held_stop t = first_stop (has_card card_at c) among [] i k (omega (arith, size)) (test ∙ t)
 
       pub held_next : b ≡ false → Held (i + 1)
       unfolding Held
-      held_next t = (omega arith, first_next (has_card card_at c) among [] i k.1 (omega (arith, size)) (test ∙ t))
+      held_next t = first_next (has_card card_at c) among [] i k (omega (arith, size)) (test ∙ t)
 
-    pub held_end : n ≤ i → n ≡ held_at card_at c among
+    pub held_end : i ≤ n → n ≤ i → n ≡ held_at card_at c among
     unfolding Held held_at
-    held_end h =
-        let e : i ≡ n = le_antisymm k.0 h in
-        sym e ∙ first_end (has_card card_at c) among [] i k.1 (omega (arith, size))
+    held_end l h =
+        let e : i ≡ n = le_antisymm l h in
+        sym e ∙ first_end (has_card card_at c) among [] i k (omega (arith, size))
 
 -- ---- the first place that may be taken
 
@@ -83,84 +84,94 @@ module _ (s : List ℕ) (clock : Clock) where
   free = is_free card_at (late_at clock)
 
   unfoldable pub Free : ℕ → Type 0
-  Free i = (i ≤ 64) × (first_at free (evenly s) ≡ i + first_at free (drop i (evenly s)))
+  Free i = first_at free (evenly s) ≡ i + first_at free (drop i (evenly s))
 
   pub free_start : Free 0
   unfolding Free
-  free_start = (omega arith, omega arith)
+  free_start = omega arith
 
   module _ (i : ℕ) (k : Free i) where
     module _ (h : i < 64) (x : List ℕ) (e : x ≡ get_or (evenly s) i []) (b : Bool) (g : b ≡ free x) where
       pub free_stop : b ≡ true → i ≡ free_at card_at (late_at clock) (evenly s)
       unfolding Free free_at
-      free_stop t = first_stop free (evenly s) [] i k.1 (omega (arith, even_length s)) (rw (← e) (sym g ∙ t))
+      free_stop t = first_stop free (evenly s) [] i k (omega (arith, even_length s)) (rw (← e) (sym g ∙ t))
 
       pub free_next : b ≡ false → Free (i + 1)
       unfolding Free
-      free_next t = (omega arith, first_next free (evenly s) [] i k.1 (omega (arith, even_length s)) (rw (← e) (sym g ∙ t)))
+      free_next t = first_next free (evenly s) [] i k (omega (arith, even_length s)) (rw (← e) (sym g ∙ t))
 
-    pub free_end : 64 ≤ i → 64 ≡ free_at card_at (late_at clock) (evenly s)
+    pub free_end : i ≤ 64 → 64 ≤ i → 64 ≡ free_at card_at (late_at clock) (evenly s)
     unfolding Free free_at
-    free_end h =
-        let e : i ≡ 64 = le_antisymm k.0 h in
-        sym e ∙ first_end free (evenly s) [] i k.1 (omega (arith, even_length s))
+    free_end l h =
+        let e : i ≡ 64 = le_antisymm l h in
+        sym e ∙ first_end free (evenly s) [] i k (omega (arith, even_length s))
 
 -- ---- whether each place fits: the first i do
 
 module _ (s : List ℕ) where
   unfoldable pub Fit : ℕ → Type 0
-  Fit i = (i ≤ 64) × (all_fit (evenly s) ≡ all_fit (drop i (evenly s)))
+  Fit i = all_fit (evenly s) ≡ all_fit (drop i (evenly s))
 
   pub fit_start : Fit 0
   unfolding Fit
-  fit_start = (omega arith, refl)
+  fit_start = refl
 
   module _ (i : ℕ) (k : Fit i) where
     module _ (h : i < 64) (x : List ℕ) (e : x ≡ get_or (evenly s) i []) (b : Bool) (g : b ≡ place_ok x) where
       step : all_fit (evenly s) ≡ cond b (all_fit (drop (suc i) (evenly s))) false
       unfolding Fit all_fit
-      step = k.1 ∙ rw (drop-cons (evenly s) i [] (omega (arith, even_length s)), ← e, ← g)
+      step = k ∙ rw (drop-cons (evenly s) i [] (omega (arith, even_length s)), ← e, ← g)
 
       pub fit_stop : not b ≡ true → false ≡ all_fit (evenly s)
       fit_stop t = sym (step ∙ rw (not-true b t))
 
       pub fit_next : not b ≡ false → Fit (i + 1)
       unfolding Fit
-      fit_next t = (omega arith, rw (add-one i) (step ∙ rw (not-false b t)))
+      fit_next t = rw (add-one i) (step ∙ rw (not-false b t))
 
     pub fit_end : 64 ≤ i → true ≡ all_fit (evenly s)
     unfolding Fit all_fit
-    fit_end h = sym (k.1 ∙ rw (drop_of_length-le (evenly s) {i = i} (omega (arith, even_length s))))
+    fit_end h = sym (k ∙ rw (drop_of_length-le (evenly s) {i = i} (omega (arith, even_length s))))
 
 -- ---- how many are filled: n of the first i
 
 module _ (s : List ℕ) where
   unfoldable pub Counted : ℕ → ℕ → Type 0
-  Counted n i = (i ≤ 64) × (n ≤ i) × (count card_at (evenly s) ≡ n + count card_at (drop i (evenly s)))
+  Counted n i = (n ≤ i) × (count card_at (evenly s) ≡ n + count card_at (drop i (evenly s)))
 
   pub count_start : Counted 0 0
   unfolding Counted
-  count_start = (omega arith, omega arith, omega arith)
+  count_start = (omega arith, omega arith)
 
   module _ (n i : ℕ) (k : Counted n i) where
-    pub count_room : n ≤ 64
+    pub count_room : i < 64 → n ≤ 64
     unfolding Counted
-    count_room = omega (arith, k.0, k.1)
+    count_room h = omega (arith, k.0)
 
     pub count_next : i < 64 → (x : List ℕ) → x ≡ get_or (evenly s) i [] → (m : ℕ) → m ≡ cond (is_empty card_at x) n (suc n) → Counted m (i + 1)
     unfolding Counted count
     count_next h x e m g = go (is_empty card_at x) g step
       where
         step : count card_at (evenly s) ≡ n + cond (is_empty card_at x) (count card_at (drop (suc i) (evenly s))) (suc (count card_at (drop (suc i) (evenly s))))
-        step = k.2 ∙ rw (drop-cons (evenly s) i [] (omega (arith, even_length s)), ← e)
+        step = k.1 ∙ rw (drop-cons (evenly s) i [] (omega (arith, even_length s)), ← e)
 
         go : (b : Bool) → m ≡ cond b n (suc n) → count card_at (evenly s) ≡ n + cond b (count card_at (drop (suc i) (evenly s))) (suc (count card_at (drop (suc i) (evenly s))))
-            → (i + 1 ≤ 64) × (m ≤ i + 1) × (count card_at (evenly s) ≡ m + count card_at (drop (i + 1) (evenly s)))
-        go true a q = (omega arith, omega (arith, k.1), rw (add-one i) (omega arith))
-        go false a q = (omega arith, omega (arith, k.1), rw (add-one i) (omega arith))
+            → (m ≤ i + 1) × (count card_at (evenly s) ≡ m + count card_at (drop (i + 1) (evenly s)))
+        go true a q = (omega (arith, k.0), rw (add-one i) (omega arith))
+        go false a q = (omega (arith, k.0), rw (add-one i) (omega arith))
 
     pub count_end : 64 ≤ i → n ≡ count card_at (evenly s)
     unfolding Counted count
     count_end h =
-        let e : count card_at (evenly s) ≡ n + 0 = rw (drop_of_length-le (evenly s) {i = i} (omega (arith, even_length s))) at k.2 in
+        let e : count card_at (evenly s) ≡ n + 0 = rw (drop_of_length-le (evenly s) {i = i} (omega (arith, even_length s))) at k.1 in
         omega arith
+
+-- ---- what each loop needs
+
+pub ruleset held_turns = (held_start, held_stop, held_next, held_end)
+
+pub ruleset free_turns = (free_start, free_stop, free_next, free_end)
+
+pub ruleset fit_turns = (fit_start, fit_stop, fit_next, fit_end)
+
+pub ruleset count_turns = (count_start, count_room, count_next, count_end)

@@ -9,22 +9,22 @@ ghost use Rattle.cache_places.specs.Marks.{mark_of, Marked, lone_of};
 use crate::search;
 
 // Whether each place fits.
+#[tactic(auto, using(crate::proofs::Turns::fit_turns))]
 fn places_fit(s: &[u8]) -> bool
     ensures { result ≡ all_fit (evenly s.now) }
 {
-    let mut i = 0;
-    while i < 64 {
+    for i in 0..64 {
         let p = search::place_at(s, i);
         if !cache_place::place_fits(p) {
             return false;
         }
-        i += 1;
     }
     true
 }
 
 // A number that the octets of a card have: two cards with two numbers are two cards. It is made of the
 // serial's field and of the issuer's name hash, so that one serial of two issuers has two numbers as a rule.
+#[tactic(auto, using(crate::proofs::Cases::mark_is))]
 fn mark_of(card: &[u8]) -> usize
     ensures { result ≡ mark_of card.now }
 {
@@ -37,6 +37,7 @@ fn mark_of(card: &[u8]) -> usize
 
 // Whether a place's card is in none of the places before it; marks the card as met. Only where its mark
 // was met before are the cards themselves compared.
+#[tactic(auto, using(crate::proofs::LoneCases::lone_cases))]
 fn lone(s: &[u8], i: usize, marks: &mut [u8]) -> bool
     requires i_bound { i < 64 }
     requires marked { Marked (evenly s.now) i marks.old }
@@ -45,44 +46,34 @@ fn lone(s: &[u8], i: usize, marks: &mut [u8]) -> bool
 {
     let p = search::place_at(s, i);
     let card = cache_place::card_at(p);
-    if card.len() == 0 {
+    if card.is_empty() {
         return true;
     }
     let mark = mark_of(card);
     let met = marks[mark];
     marks[mark] = 1;
-    if met == 0 {
-        return true;
-    }
-    let at = search::held_among(s, card, i);
-    i <= at
+    met == 0 || i <= search::held_among(s, card, i)
 }
 
 // Whether no card stands in two places.
+#[tactic(auto, using(crate::proofs::LoneCases::apart_turns))]
 fn cards_differ(s: &[u8]) -> bool
     ensures { result ≡ cards_once card_at (evenly s.now) }
 {
     let mut marks = [0u8; 1021];
-    let mut i = 0;
-    while i < 64 {
+    for i in 0..64 {
         if !lone(s, i, &mut marks) {
             return false;
         }
-        i += 1;
     }
     true
 }
 
 // Whether a buffer is a cache: 5,568 octets, each of the 64 places fits, and no card stands in two of
 // them.
+#[tactic(auto, using(crate::proofs::Cases::room_cases))]
 pub fn room_fits(s: &[u8]) -> bool
     ensures { result ≡ is_cache s.now }
 {
-    if s.len() != 5568 {
-        return false;
-    }
-    if !places_fit(s) {
-        return false;
-    }
-    cards_differ(s)
+    s.len() == 5568 && places_fit(s) && cards_differ(s)
 }

@@ -2,7 +2,7 @@
 -- after_same, after_own, after_either; new_kept, place_new, place_held, later_kept, place_later, place_older,
 -- nothing_written; after_octets.
 -- The definitions are in Cache. Assumes nothing.
-use Rattle.std.specs.Prelude.{ℕ, zero, suc, ◌+◌, ◌*◌, ◌-◌, ◌≤◌, ◌<◌, ◌⊎◌, ◌≡◌, refl, Bool, true, false, cond, eqb, length, take, set, replicate}
+use Rattle.std.specs.Prelude.{ℕ, zero, suc, ◌+◌, ◌*◌, ◌-◌, ◌≤◌, ◌<◌, ◌⊎◌, ◌≡◌, refl, Bool, true, false, cond, eqb, length, take, set, replicate, None}
 use Rattle.std.proofs.Common.{inl, inr, ⊎_elim, sym, ◌∙◌, lit<}
 use Rattle.std.proofs.Math.Path.{ap}
 use mathlib.Core.List.{List, [], flatten}
@@ -21,7 +21,7 @@ use Rattle.cache_rules.specs.Place.{width, places, card_at, says_at, place_of, t
 use Rattle.cache_rules.proofs.PlaceLaws.{place_says, place_card}
 use Rattle.cache_rules.specs.Cache.{room_of, place_in, takes, filing_refusal, room_after, buffer_of}
 use Rattle.cache_rules.proofs.CacheLaws.{cache_exactly, room_length, place_octets}
-use Rattle.cache_rules.proofs.RefusalLaws.{filed_refused}
+use Rattle.cache_rules.proofs.RefusalLaws.{accepted_or_left}
 use Rattle.cache_rules.proofs.FilingLaws.{filed_buffer, was_cache, was_said, takes_inside, after_room, after_put}
 
 -- zeros are octets
@@ -41,7 +41,7 @@ put_octets s x at p q = go (room_for (length s) at (length x))
     go true = octets_append (take at s) _ (octets_take at s p) (octets_append x _ q (octets_drop (at + length x) s p))
     go false = p
 
-module _ (clock : Clock) (s t : List ℕ) (e : filing_refusal clock s t ≡ 0) (o : Octets t) where
+module _ (clock : Clock) (s t : List ℕ) (e : filing_refusal clock s t ≡ None) (o : Octets t) where
   abbrev after : List ℕ
   after = buffer_of clock s t
 
@@ -133,17 +133,15 @@ module _ (clock : Clock) (s t : List ℕ) (e : filing_refusal clock s t ≡ 0) (
 
 -- what is left are octets
 pub after_octets : (clock : Clock) (s t : List ℕ) → Octets s → Octets t → Octets (buffer_of clock s t)
-after_octets clock s t p o = go (eqb (filing_refusal clock s t) 0) refl
+after_octets clock s t p o =
+    ⊎_elim
+    (λ (e : filing_refusal clock s t ≡ None). rw (after_put clock s t e o) (put_octets s _ (width * takes clock s t) p (kept e)))
+    (λ (e : buffer_of clock s t ≡ s). rw e p)
+    (accepted_or_left clock s t)
   where
-    kept : filing_refusal clock s t ≡ 0 → Octets (kept_in card_at wins_of (place_of t) (room_of s))
+    kept : filing_refusal clock s t ≡ None → Octets (kept_in card_at wins_of (place_of t) (room_of s))
     kept e =
         ⊎_elim
         (λ (n : kept_in card_at wins_of (place_of t) (room_of s) ≡ place_of t). rw n (new_octets t o))
         (λ m. rw m.1 (place_octets s (held_at card_at (card_at (place_of t)) (room_of s)) (rw (room_length s) at m.0) p))
         (kept_either card_at wins_of (place_of t) (room_of s) [])
-
-    go : (u : Bool) → eqb (filing_refusal clock s t) 0 ≡ u → Octets (buffer_of clock s t)
-    go true q =
-        let e = eqb-true (filing_refusal clock s t) 0 q in
-        rw (after_put clock s t e o) (put_octets s _ (width * takes clock s t) p (kept e))
-    go false q = rw (filed_refused clock s t (eqb-false (filing_refusal clock s t) 0 q)).1 p

@@ -2,13 +2,14 @@
 -- told_verdict, told_card, told_same, told_number, told_held, said_refusal; ask_19, ask_clock, ask_card, ask_none,
 -- ask_held; said_early, said_late, said_within; cards_same.
 -- The definitions are in Cache. Assumes nothing.
-use Rattle.std.specs.Prelude.{ℕ, ◌+◌, ◌≤◌, ◌<◌, ◌≡◌, true, false, List, [], ◌++◌}
+use Rattle.std.specs.Prelude.{ℕ, ◌+◌, ◌≤◌, ◌<◌, ◌≡◌, true, false, List, [], ◌++◌, Option, None, Some}
 use Rattle.std.proofs.Common.{arith, sym, ap, ◌∙◌}
 use borrow.Author.Tests.{lt-ltb, le-ltb, ne_eqb}
 use Rattle.freshness.specs.Fresh.{fresh_refusal}
 use Rattle.freshness.specs.FreshLaws.{fresh_early, fresh_late, fresh_within}
 use Rattle.answer.specs.declared.Card.{Card}
 use Rattle.answer.specs.declared.Answer.{Answer}
+use Rattle.answer.specs.declared.Verdict.{Verdict}
 use Rattle.answer.specs.Card.{card_ok}
 use Rattle.answer.specs.CardLaws.{field_exactly}
 use Rattle.answer.specs.Verdict.{kind_of, number_of, without_place, refused}
@@ -18,7 +19,6 @@ use Rattle.slip.specs.Slip.{card_octets, Sized}
 use Rattle.slip.specs.CardOctetsLaws.{card_read}
 use Rattle.cache_room.specs.Room.{held_at}
 use Rattle.freshness.specs.declared.Clock.{Clock}
-use Rattle.cache_rules.specs.declared.Asked.TheVariants.{NotHeld, Says}
 use Rattle.cache_rules.specs.declared.Told.{Told}
 use Rattle.cache_rules.specs.Place.{places, card_at, says_at, is_said, this_of, next_of}
 use Rattle.freshness.specs.Clock.{clock_ok}
@@ -29,7 +29,7 @@ use Rattle.cache_rules.specs.Cache.{room_of, place_in, is_cache, told, not_held,
 
 pub told_verdict : (a b : Answer) → told a ≡ told b → a.verdict ≡ b.verdict
 unfolding told
-told_verdict a b e = let h : Says a.verdict ≡ Says b.verdict = ap (λ (x : Told). x.asked) e in cc h
+told_verdict a b e = let h : Some a.verdict ≡ Some b.verdict = ap (λ (x : Told). x.asked) e in cc h
 
 pub told_card : (a b : Answer) → told a ≡ told b → a.card ≡ b.card
 unfolding told
@@ -45,9 +45,8 @@ told_number m n e = sym (refused_number m 0) ∙ ap number_of (told_verdict (ref
 pub told_held : (a : Answer) → told a ≡ not_held → ⊥
 unfolding told not_held
 told_held a e =
-    let h : Says a.verdict ≡ NotHeld = ap (λ (x : Told). x.asked) e in
-    let z : ◌≡◌ {A = ℕ} 0 1 = cc h in
-    omega arith
+    let h : ◌≡◌ {A = Option Verdict} (Some a.verdict) None = ap (λ (x : Told). x.asked) e in
+    cc h
 
 -- what a place says is no refusal
 pub said_refusal : (a : Answer) (n : ℕ) → is_said a ≡ true → told a ≡ told (refused n 0) → ⊥

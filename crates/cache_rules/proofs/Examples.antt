@@ -2,14 +2,14 @@
 -- cache_computes; card, clock, good, empty, two, one, fill.
 -- The laws stand here, and what is made of them; the definitions in specs/Examples.
 -- Assumes nothing.
-use Rattle.std.specs.Prelude.{ℕ, zero, suc, ◌≡◌, refl, true, false, replicate}
+use Rattle.std.specs.Prelude.{ℕ, zero, suc, ◌≡◌, refl, true, false, replicate, Ok, Err}
 use mathlib.Core.List.{List, [], ◌∷◌, ◌++◌}
 use Rattle.answer.specs.declared.Card.{Card}
 use Rattle.answer.specs.declared.Verdict.TheVariants.{Good}
 use Rattle.answer.specs.Verdict.{saying, refused}
 use Rattle.slip.specs.Slip.{slip_of}
 use Rattle.freshness.specs.declared.Clock.{Clock}
-use Rattle.cache_rules.specs.declared.Filed.TheVariants.{Count, Refused}
+use Rattle.cache_rules.specs.declared.Unfiled.TheVariants as unfiled
 use Rattle.cache_rules.specs.Cache.{is_cache, filed_of, buffer_of, told, not_held, ask_of}
 use Rattle.cache_rules.specs.Examples.{cache_computes}
 
@@ -42,7 +42,7 @@ empty_fits = refl
 -- ---- filing
 
 -- into the empty cache: the first place, and one is then not empty
-filed_first : filed_of (clock 150 0) empty (good 0x11 100 200) ≡ Count 1
+filed_first : filed_of (clock 150 0) empty (good 0x11 100 200) ≡ Ok 1
 unfolding cache_computes
 filed_first = refl
 
@@ -59,7 +59,7 @@ earlier : buffer_of (clock 150 0) one (good 0x11 99 300) ≡ one
 unfolding cache_computes
 earlier = refl
 
-earlier_counts : filed_of (clock 150 0) one (good 0x11 99 300) ≡ Count 1
+earlier_counts : filed_of (clock 150 0) one (good 0x11 99 300) ≡ Ok 1
 unfolding cache_computes
 earlier_counts = refl
 
@@ -78,15 +78,15 @@ unfolding cache_computes
 tolerated = refl
 
 -- the refusals in their order: a short buffer and a bad clock and slip; a bad clock and slip; a refusal's slip
-short : filed_of (clock 0 3601) (replicate 5567 0) [] ≡ Refused 19
+short : filed_of (clock 0 3601) (replicate 5567 0) [] ≡ Err unfiled.NoCache
 unfolding cache_computes
 short = refl
 
-bad_clock : filed_of (clock 0 3601) empty [] ≡ Refused 1
+bad_clock : filed_of (clock 0 3601) empty [] ≡ Err unfiled.Clock
 unfolding cache_computes
 bad_clock = refl
 
-refusal : filed_of (clock 0 0) empty (4 ∷ 4 ∷ 6 ∷ []) ≡ Refused 17
+refusal : filed_of (clock 0 0) empty (4 ∷ 4 ∷ 6 ∷ []) ≡ Err unfiled.Slip
 unfolding cache_computes
 refusal = refl
 
@@ -138,15 +138,15 @@ fill : ℕ → List ℕ
 fill zero = []
 fill (suc n) = good (suc n) 100 200 ++ replicate 9 0 ++ fill n
 
-no_place : filed_of (clock 200 0) (fill 64) (good 0x77 100 300) ≡ Refused 20
+no_place : filed_of (clock 200 0) (fill 64) (good 0x77 100 300) ≡ Err unfiled.Full
 unfolding cache_computes fill
 no_place = refl
 
 -- a card that is held has its place, and one second later any card has
-own_place : filed_of (clock 200 0) (fill 64) (good 7 100 300) ≡ Count 64
+own_place : filed_of (clock 200 0) (fill 64) (good 7 100 300) ≡ Ok 64
 unfolding cache_computes fill
 own_place = refl
 
-a_second_later : filed_of (clock 201 0) (fill 64) (good 0x77 100 300) ≡ Count 64
+a_second_later : filed_of (clock 201 0) (fill 64) (good 0x77 100 300) ≡ Ok 64
 unfolding cache_computes fill
 a_second_later = refl

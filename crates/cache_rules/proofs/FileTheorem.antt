@@ -4,7 +4,7 @@
 -- Refusals are in RefusalTheorem, many filings in ManyTheorem; filing and asking as against the check are in crate
 -- cache_check. `filed_of clock s t` is what filing the octets t into the buffer s answers, `buffer_of clock s t` what it
 -- leaves there, and `takes clock s t` the place it goes to. Assumes nothing.
-use Rattle.std.specs.Prelude.{ℕ, suc, ◌*◌, ◌≤◌, ◌<◌, ◌⊎◌, ◌≡◌, true, length}
+use Rattle.std.specs.Prelude.{ℕ, suc, ◌*◌, ◌≤◌, ◌<◌, ◌⊎◌, ◌≡◌, true, length, None, Ok}
 use Rattle.std.proofs.Common.{arith, sym, ap, ◌∙◌}
 use mathlib.Core.List.{List, []}
 use Rattle.octets.specs.Octets.{Octets}
@@ -15,10 +15,9 @@ use Rattle.cache_room.specs.Room.{held_at, count, kept_in}
 use Rattle.cache_room.proofs.FirstLaws.{held_none}
 use Rattle.cache_room.proofs.TakenLaws.{taken_first}
 use Rattle.freshness.specs.declared.Clock.{Clock}
-use Rattle.cache_rules.specs.declared.Filed.TheVariants.{Count}
 use Rattle.cache_rules.specs.Place.{width, places, card_at, says_at, place_of, this_of, is_stale, wins_of, says_of, WholeCard}
 use Rattle.cache_rules.proofs.PlaceLaws.{place_says, place_card}
-use Rattle.cache_rules.specs.Cache.{room_of, place_in, is_cache, takes, filing_refusal, filed_of, buffer_of, ask_of}
+use Rattle.cache_rules.specs.Cache.{room_of, place_in, is_cache, takes, filing_refusal, filed_by, filed_of, buffer_of, ask_of}
 use Rattle.cache_rules.proofs.CacheLaws.{room_length}
 use Rattle.cache_rules.proofs.RefusalLaws as refusal
 use Rattle.cache_rules.proofs.FilingLaws as filing
@@ -28,8 +27,8 @@ use Rattle.cache_rules.specs.Has.{Has, Free, PlaceTaken}
 use Rattle.cache_rules.proofs.OtherCardLaws.{others_either}
 
 module _ (clock : Clock) (s t : List ℕ) (o : Octets t) where
-  module _ (n : ℕ) (accepted : filed_of clock s t ≡ Count n) where
-    e : filing_refusal clock s t ≡ 0
+  module _ (n : ℕ) (accepted : filed_of clock s t ≡ Ok n) where
+    e : filing_refusal clock s t ≡ None
     e = refusal.count_accepted clock s t n accepted
 
     abbrev left : List ℕ
@@ -44,7 +43,7 @@ module _ (clock : Clock) (s t : List ℕ) (o : Octets t) where
 
     -- it answers how many places are then not empty
     pub counted : n ≡ count card_at (room_of left)
-    counted = let h : Count n ≡ Count (count card_at (room_of left)) = sym accepted ∙ filing.filed_count_lem clock s t e o in cc h
+    counted = let h : filed_by None n ≡ filed_by None (count card_at (room_of left)) = sym accepted ∙ filing.filed_count_lem clock s t e o in cc h
 
     -- which is one more than before where it takes an empty place, else the same
     pub count_grown : (card_at (place_in s k) ≡ [] → n ≡ suc (count card_at (room_of s))) × ((card_at (place_in s k) ≡ [] → ⊥) → n ≡ count card_at (room_of s))

@@ -2,8 +2,8 @@
 -- filed_buffer, was_cache, was_clock, was_said, takes_one, takes_inside; new_card, kept_place, after_room, after_cache,
 -- after_put, filed_count_lem, count_grows.
 -- The definitions are in Cache. Refused filings are in RefusalLaws, place by place in AfterLaws. Assumes nothing.
-use Rattle.std.specs.Prelude.{ℕ, suc, ◌*◌, ◌<◌, ◌⊎◌, ◌≡◌, refl, Bool, true, length}
-use Rattle.std.proofs.Common.{inl, inr, sym, ◌∙◌, eq-eqb, ltb-true}
+use Rattle.std.specs.Prelude.{ℕ, suc, ◌*◌, ◌<◌, ◌⊎◌, ◌≡◌, refl, Bool, true, length, Option, None, Ok}
+use Rattle.std.proofs.Common.{inl, inr, sym, ◌∙◌, ltb-true}
 use Rattle.std.proofs.Math.Path.{ap}
 use Rattle.std.proofs.Math.Bool.{false}
 use mathlib.Core.List.{List, [], flatten}
@@ -18,17 +18,17 @@ use Rattle.cache_room.proofs.FiledLaws.{kept_either, kept_card, filed_length, fi
 use Rattle.cache_room.proofs.CountLaws.{count_more, count_same}
 use Rattle.freshness.specs.Clock.{clock_ok}
 use Rattle.freshness.specs.declared.Clock.{Clock}
-use Rattle.cache_rules.specs.declared.Filed.TheVariants.{Count}
+use Rattle.cache_rules.specs.declared.Unfiled.{Unfiled}
 use Rattle.cache_rules.specs.Place.{width, places, card_at, is_said, place_ok, place_of, is_stale, wins_of, says_of}
 use Rattle.cache_rules.proofs.PlaceLaws.{place_length, place_card, place_fits, card_some}
-use Rattle.cache_rules.specs.Cache.{room_of, place_in, all_fit, is_cache, takes, filing_refusal, room_after, filed_of, buffer_of}
+use Rattle.cache_rules.specs.Cache.{room_of, place_in, all_fit, is_cache, takes, filing_refusal, room_after, filed_by, left_by, filed_of, buffer_of}
 use Rattle.cache_rules.proofs.CacheLaws.{fit_at, fit_set, cache_exactly, room_length}
 use Rattle.cache_rules.proofs.RefusalLaws.{refusal_exactly}
 
-module _ (clock : Clock) (s t : List ℕ) (e : filing_refusal clock s t ≡ 0) where
+module _ (clock : Clock) (s t : List ℕ) (e : filing_refusal clock s t ≡ None) where
   pub filed_buffer : buffer_of clock s t ≡ flatten (room_after clock s t)
   unfolding buffer_of
-  filed_buffer = rw (eq-eqb (filing_refusal clock s t) 0 e)
+  filed_buffer = ap (λ (x : Option Unfiled). left_by x (flatten (room_after clock s t)) s) e
 
   pub was_cache : is_cache s ≡ true
   was_cache = ((refusal_exactly clock s t).4.0 e).0
@@ -109,9 +109,9 @@ module _ (clock : Clock) (s t : List ℕ) (e : filing_refusal clock s t ≡ 0) w
     after_put = filed_buffer ∙ parts_put width places s _ (takes clock s t) takes_one kept_place.1 cache.0
 
     -- the count is that of the buffer that it leaves
-    pub filed_count_lem : filed_of clock s t ≡ Count (count card_at (room_of (buffer_of clock s t)))
+    pub filed_count_lem : filed_of clock s t ≡ Ok (count card_at (room_of (buffer_of clock s t)))
     unfolding filed_of
-    filed_count_lem = rw (eq-eqb (filing_refusal clock s t) 0 e, after_room)
+    filed_count_lem = ap (λ (x : Option Unfiled). filed_by x (count card_at (room_after clock s t))) e ∙ ap (λ (l : List (List ℕ)). filed_by None (count card_at l)) (sym after_room)
 
     empty_not : (x : List ℕ) → (card_at x ≡ [] → ⊥) → is_empty card_at x ≡ false
     empty_not x h = go (is_empty card_at x) refl

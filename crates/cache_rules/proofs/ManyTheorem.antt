@@ -2,12 +2,11 @@
 -- that none of them is for gives what it gave, until its place is taken stale.
 -- all_octets, all_kept; taken_late, gone_all, since.
 -- One filing is in FileTheorem. Assumes nothing.
-use Rattle.std.specs.Prelude.{ℕ, ◌⊎◌, ◌≡◌, Bool, true, false, eqb}
+use Rattle.std.specs.Prelude.{ℕ, ◌⊎◌, ◌≡◌, true}
 use Rattle.std.proofs.Math.Logic.{inl, inr, ⊎_elim}
 use Rattle.std.proofs.Math.Path.{refl, sym}
-use Rattle.std.proofs.Common.{ap, ◌∙◌, eqb-true}
+use Rattle.std.proofs.Common.{ap, ◌∙◌}
 use mathlib.Core.List.{List, [], ◌∷◌, Memᴰ}
-use Rattle.std.proofs.lemmas.Bool.{eqb-false}
 use Rattle.octets.specs.Octets.{Octets}
 use Rattle.answer.specs.declared.Card.{Card}
 use Rattle.answer.specs.Card.{card_ok}
@@ -15,8 +14,8 @@ use Rattle.answer.specs.Verdict.{refused}
 use Rattle.freshness.specs.declared.Clock.{Clock}
 use Rattle.cache_rules.specs.Place.{card_at, says_of, WholeCard}
 use Rattle.cache_rules.proofs.PlaceLaws.{read_sized, place_card}
-use Rattle.cache_rules.specs.Cache.{place_in, is_cache, takes, filing_refusal, buffer_of, told, ask_of}
-use Rattle.cache_rules.proofs.RefusalLaws.{filed_refused}
+use Rattle.cache_rules.specs.Cache.{place_in, is_cache, takes, buffer_of, told, ask_of}
+use Rattle.cache_rules.proofs.RefusalLaws.{accepted_or_left}
 use Rattle.cache_rules.proofs.FilingLaws.{was_cache, was_clock, was_said, after_cache}
 use Rattle.cache_rules.proofs.AskLaws.{cards_same}
 use Rattle.cache_rules.proofs.AfterLaws.{after_either, after_octets}
@@ -24,14 +23,6 @@ use Rattle.cache_rules.specs.Has.{Has, PlaceTaken}
 use Rattle.cache_rules.proofs.OtherCardLaws.{slip_card_ok, others_either}
 use Rattle.cache_rules.proofs.AskTheorem.{stale_exactly}
 use Rattle.cache_rules.specs.Many.{after_all, AllOctets, ForOthers}
-
--- a filing is accepted, or leaves the buffer
-either : (clock : Clock) (s t : List ℕ) → (filing_refusal clock s t ≡ 0) ⊎ (buffer_of clock s t ≡ s)
-either clock s t = go (eqb (filing_refusal clock s t) 0) refl
-  where
-    go : (u : Bool) → eqb (filing_refusal clock s t) 0 ≡ u → (filing_refusal clock s t ≡ 0) ⊎ (buffer_of clock s t ≡ s)
-    go true q = inl (eqb-true (filing_refusal clock s t) 0 q)
-    go false q = inr (filed_refused clock s t (eqb-false (filing_refusal clock s t) 0 q)).1
 
 -- ── what is left ──
 
@@ -41,7 +32,7 @@ all_octets s [] o h = o
 all_octets s (f ∷ l) o h = all_octets (buffer_of f.0 s f.1) l (after_octets f.0 s f.1 o h.0) h.1
 
 one_kept : (clock : Clock) (s t : List ℕ) → Octets t → is_cache s ≡ true → is_cache (buffer_of clock s t) ≡ true
-one_kept clock s t o c = ⊎_elim (λ e. after_cache clock s t e o) (λ (e : buffer_of clock s t ≡ s). rw e c) (either clock s t)
+one_kept clock s t o c = ⊎_elim (λ e. after_cache clock s t e o) (λ (e : buffer_of clock s t ≡ s). rw e c) (accepted_or_left clock s t)
 
 -- filings leave a cache
 pub all_kept : (s : List ℕ) (l : List (Clock × List ℕ)) → AllOctets l → is_cache s ≡ true → is_cache (after_all s l) ≡ true
@@ -58,7 +49,7 @@ module _ (card : Card) (z : WholeCard card) (f : card_ok card ≡ true) where
       ⊎_elim
       (λ e. (stale_exactly clock card s o (was_cache clock s t e) (was_clock clock s t e) f (takes clock s t) h.has).0 h.stale)
       (λ (e : buffer_of clock s t ≡ s). absurd (h.gone (takes clock s t) (rw e h.has)))
-      (either clock s t)
+      (accepted_or_left clock s t)
 
   -- a card that no place has gets none by a filing for another
   gone_stays : (clock : Clock) (s t : List ℕ) → Octets t → (card ≡ (says_of t).card → ⊥) → ((i : ℕ) → Has s i card → ⊥)
@@ -72,7 +63,7 @@ module _ (card : Card) (z : WholeCard card) (f : card_ok card ≡ true) where
       (λ x. n (cards_same card (says_of t).card z (read_sized t) f (slip_card_ok t o d) (sym e ∙ ap card_at x.1 ∙ place_card t o d)))
       (after_either clock s t r o i))
       (λ (q : buffer_of clock s t ≡ s). h i (b, ap (λ (u : List ℕ). card_at (place_in u i)) (sym q) ∙ e))
-      (either clock s t)
+      (accepted_or_left clock s t)
 
   -- nor by many
   pub gone_all : (s : List ℕ) (l : List (Clock × List ℕ)) → AllOctets l → ForOthers card l → ((i : ℕ) → Has s i card → ⊥)

@@ -1,9 +1,8 @@
 -- Laws of the numbers: what a filing and an ask answer, told from its number.
--- filed_number_lem; asked_number_lem.
+-- unfiled_some, filed_number_lem; asked_number_lem.
 -- The definitions are in Numbers. Assumes nothing.
-use Rattle.std.specs.Prelude.{ℕ, ◌<◌, ◌↔◌, ◌≡◌, refl, Bool, true, false, cond, List, eqb}
+use Rattle.std.specs.Prelude.{ℕ, ◌<◌, ◌↔◌, ◌≡◌, refl, true, List, Ok, Err}
 use Rattle.std.proofs.Common.{arith, sym, ap, ◌∙◌}
-use Rattle.std.proofs.lemmas.Bool.{eqb-false}
 use Rattle.octets.specs.Octets.{Octets}
 use Rattle.answer.specs.declared.Card.{Card}
 use Rattle.answer.specs.declared.Answer.{Answer}
@@ -12,38 +11,37 @@ use Rattle.answer.specs.declared.Verdict.TheVariants as verdict
 use Rattle.answer.specs.Verdict.{kind_of, number_of, refused}
 use Rattle.answer.specs.VerdictLaws.{refused_number}
 use Rattle.freshness.specs.declared.Clock.{Clock}
-use Rattle.cache_room.specs.Room.{count}
-use Rattle.cache_rules.specs.declared.Filed.TheVariants.{Count, Refused}
+use Rattle.cache_rules.specs.declared.Unfiled.{Unfiled}
+use Rattle.cache_rules.specs.declared.Unfiled.TheVariants as unfiled
 use Rattle.cache_rules.specs.declared.Told.{Told}
-use Rattle.cache_rules.specs.Place.{card_at, says_at, is_said}
+use Rattle.cache_rules.specs.Place.{says_at, is_said}
 use Rattle.cache_rules.proofs.PlaceLaws.{said_kind}
-use Rattle.cache_rules.specs.Cache.{place_in, filing_refusal, room_after, filed_of, told, not_held, ask_of}
+use Rattle.cache_rules.specs.Cache.{place_in, filed_of, told, not_held, ask_of}
 use Rattle.cache_rules.proofs.AskLaws.{told_verdict, told_held}
 use Rattle.cache_rules.proofs.OutcomeTheorem.{outcome}
-use Rattle.cache_rules.specs.Numbers.{filed_number, asked_number}
+use Rattle.cache_rules.specs.Numbers.{Filed, unfiled_number, filed_number, asked_number}
 
 -- ---- filing
 
+-- no refusal has the number 0
+pub unfiled_some : (e : Unfiled) → 0 < unfiled_number e
+unfiled_some unfiled.NoCache = omega arith
+unfiled_some unfiled.Clock = omega arith
+unfiled_some unfiled.Slip = omega arith
+unfiled_some unfiled.Full = omega arith
+
 -- 0 exactly if it is accepted, another number exactly if it is refused with that number
 pub filed_number_lem : (clock : Clock) (s t : List ℕ)
-    → (filed_number (filed_of clock s t) ≡ 0 ↔ (n : ℕ) × (filed_of clock s t ≡ Count n))
-    × ((n : ℕ) → 0 < n → filed_number (filed_of clock s t) ≡ n ↔ filed_of clock s t ≡ Refused n)
-unfolding filed_of
-filed_number_lem clock s t = go (eqb (filing_refusal clock s t) 0) refl
+    → (filed_number (filed_of clock s t) ≡ 0 ↔ (n : ℕ) × (filed_of clock s t ≡ Ok n))
+    × ((n : ℕ) → 0 < n → filed_number (filed_of clock s t) ≡ n ↔ (e : Unfiled) × (unfiled_number e ≡ n) × (filed_of clock s t ≡ Err e))
+filed_number_lem clock s t = go (filed_of clock s t)
   where
-    go : (u : Bool) → eqb (filing_refusal clock s t) 0 ≡ u
-        → (filed_number (cond u (Count (count card_at (room_after clock s t))) (Refused (filing_refusal clock s t))) ≡ 0
-        ↔ (n : ℕ) × (cond u (Count (count card_at (room_after clock s t))) (Refused (filing_refusal clock s t)) ≡ Count n))
-        × ((n : ℕ) → 0 < n
-        → filed_number (cond u (Count (count card_at (room_after clock s t))) (Refused (filing_refusal clock s t))) ≡ n
-        ↔ cond u (Count (count card_at (room_after clock s t))) (Refused (filing_refusal clock s t)) ≡ Refused n)
-    go true q = (
-      (λ e. (count card_at (room_after clock s t), refl), λ h. refl),
-      λ n b. (λ e. absurd (omega arith), λ e. let z : ◌≡◌ {A = ℕ} 0 1 = cc e in absurd (omega arith)),
-    )
-    go false q = (
-      (λ e. absurd (eqb-false (filing_refusal clock s t) 0 q e), λ (n, e). let z : ◌≡◌ {A = ℕ} 0 1 = cc e in absurd (omega arith)),
-      λ n b. (λ e. ap Refused e, λ e. ap filed_number e),
+    go : (f : Filed) → (filed_number f ≡ 0 ↔ (n : ℕ) × (f ≡ Ok n))
+        × ((n : ℕ) → 0 < n → filed_number f ≡ n ↔ (e : Unfiled) × (unfiled_number e ≡ n) × (f ≡ Err e))
+    go (Ok k) = ((λ q. (k, refl), λ h. refl), λ n b. (λ q. absurd (omega arith), λ (e, q, h). absurd (cc h)))
+    go (Err x) = (
+      (λ q. absurd (omega (arith, unfiled_some x)), λ (n, h). absurd (cc h)),
+      λ n b. (λ q. (x, q, refl), λ (e, q, h). ap filed_number h ∙ q),
     )
 
 -- ---- asking

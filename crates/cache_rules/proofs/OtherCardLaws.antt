@@ -1,11 +1,10 @@
 -- What a filing does to asking for another card: nothing, or its stale place is taken.
 -- slip_card_ok, place_own; ask_by; others_either.
 -- The definitions are in Cache and Has. Assumes nothing.
-use Rattle.std.specs.Prelude.{ℕ, ◌<◌, ◌⊎◌, ◌≡◌, refl, Bool, true, false, eqb}
-use Rattle.std.proofs.Common.{arith, inl, inr, ⊎_elim, sym, ap, ◌∙◌, eqb-true}
+use Rattle.std.specs.Prelude.{ℕ, ◌<◌, ◌⊎◌, ◌≡◌, refl, Bool, true, false, None}
+use Rattle.std.proofs.Common.{arith, inl, inr, ⊎_elim, sym, ap, ◌∙◌}
 use mathlib.Core.List.{List, []}
 use Rattle.std.proofs.Math.ListN.{length}
-use Rattle.std.proofs.lemmas.Bool.{eqb-false}
 use Rattle.octets.specs.Octets.{Octets}
 use Rattle.octets.specs.OctetsLaws.{octets_take}
 use Rattle.answer.specs.declared.Card.{Card}
@@ -23,7 +22,7 @@ use Rattle.cache_rules.proofs.FitLaws.{held_card}
 use Rattle.cache_rules.specs.Cache.{room_of, place_in, is_cache, takes, filing_refusal, room_after, buffer_of, ask_of}
 use Rattle.cache_rules.specs.Has.{PlaceTaken}
 use Rattle.cache_rules.proofs.CacheLaws.{cache_exactly, room_length}
-use Rattle.cache_rules.proofs.RefusalLaws.{filed_refused}
+use Rattle.cache_rules.proofs.RefusalLaws.{accepted_or_left}
 use Rattle.cache_rules.proofs.FilingLaws.{was_cache, was_said, takes_one, takes_inside, new_card, after_room, after_cache}
 use Rattle.cache_rules.proofs.AskLaws.{cards_same}
 use Rattle.cache_rules.proofs.HeldLaws.{card_nonempty}
@@ -60,7 +59,7 @@ module _ (clock : Clock) (s t : List ℕ) (o : Octets t) (card : Card) (z : Whol
   abbrev c : List ℕ
   c = card_octets card
 
-  module _ (e : filing_refusal clock s t ≡ 0) where
+  module _ (e : filing_refusal clock s t ≡ None) where
     cache : is_cache s ≡ true
     cache = was_cache clock s t e
 
@@ -99,8 +98,8 @@ module _ (clock : Clock) (s t : List ℕ) (o : Octets t) (card : Card) (z : Whol
         ((cache_exactly s).0 cache).2 (card_nonempty card) (apart f))
 
   pub others_either : ((later : Clock) → ask_of later card after ≡ ask_of later card s) ⊎ PlaceTaken clock s t card
-  others_either = go (eqb (filing_refusal clock s t) 0) refl
-    where
-      go : (u : Bool) → eqb (filing_refusal clock s t) 0 ≡ u → ((later : Clock) → ask_of later card after ≡ ask_of later card s) ⊎ PlaceTaken clock s t card
-      go true q = accepted (eqb-true (filing_refusal clock s t) 0 q) (card_ok card) refl
-      go false q = inl (λ later. ap (ask_of later card) (filed_refused clock s t (eqb-false (filing_refusal clock s t) 0 q)).1)
+  others_either =
+      ⊎_elim
+      (λ e. accepted e (card_ok card) refl)
+      (λ (e : after ≡ s). inl (λ later. ap (ask_of later card) e))
+      (accepted_or_left clock s t)

@@ -1,104 +1,110 @@
--- Laws of what a filing refuses: each number exactly when, and that a refused filing changes nothing.
--- refusal_exactly; filed_refused, refused_keeps, count_accepted, refused_number.
+-- Laws of what a filing refuses: each refusal exactly when, and that a refused filing changes nothing.
+-- refusal_exactly; filed_refused, accepted_or_left, refused_keeps, count_accepted, refused_number.
 -- The definitions are in Cache. Accepted filings are in FilingLaws. Assumes nothing.
-use Rattle.std.specs.Prelude.{ℕ, ◌↔◌, Bool, List, ltb}
-use Rattle.std.proofs.Common.{arith, sym, ◌∙◌}
+use Rattle.std.specs.Prelude.{ℕ, ◌↔◌, ◌⊎◌, Bool, List, ltb, Option, None, Some, Ok, Err}
+use Rattle.std.proofs.Common.{sym, ◌∙◌, inl, inr}
 use Rattle.std.proofs.Math.Path.{◌≡◌, refl, ap}
 use Rattle.std.proofs.Math.Bool.{true, false, cond}
-use Rattle.std.proofs.Math.Dec.{eqb}
-use borrow.Author.Tests.{eqb-true, eqb-false, ne_eqb}
+use mathlib.Core.List.{flatten}
 use Rattle.octets.specs.SameLaws.{impossible}
 use Rattle.cache_room.specs.Room.{count}
 use Rattle.freshness.specs.declared.Clock.{Clock}
-use Rattle.cache_rules.specs.declared.Filed.TheVariants.{Count, Refused}
+use Rattle.cache_rules.specs.declared.Unfiled.{Unfiled}
+use Rattle.cache_rules.specs.declared.Unfiled.TheVariants as unfiled
 use Rattle.cache_rules.specs.Place.{places, card_at, is_said, says_of}
 use Rattle.freshness.specs.Clock.{clock_ok}
-use Rattle.cache_rules.specs.Cache.{is_cache, takes, filing_refusal, room_after, filed_of, buffer_of}
+use Rattle.cache_rules.specs.Cache.{is_cache, takes, filing_refusal, room_after, filed_by, left_by, filed_of, buffer_of}
 
 module _ (clock : Clock) (s t : List ℕ) where
   -- ---- the refusal, by the tests in their order
 
-  abbrev r : ℕ
+  abbrev r : Option Unfiled
   r = filing_refusal clock s t
 
-  abbrev Says : ℕ → Bool → Bool → Bool → Bool → Type 0
+  abbrev Says : Option Unfiled → Bool → Bool → Bool → Bool → Type 0
   Says n a b c d =
-      (n ≡ 19 ↔ a ≡ false)
-      × (n ≡ 1 ↔ (a ≡ true) × (b ≡ false))
-      × (n ≡ 17 ↔ (a ≡ true) × (b ≡ true) × (c ≡ false))
-      × (n ≡ 20 ↔ (a ≡ true) × (b ≡ true) × (c ≡ true) × (d ≡ false))
-      × (n ≡ 0 ↔ (a ≡ true) × (b ≡ true) × (c ≡ true) × (d ≡ true))
+      (n ≡ Some unfiled.NoCache ↔ a ≡ false)
+      × (n ≡ Some unfiled.Clock ↔ (a ≡ true) × (b ≡ false))
+      × (n ≡ Some unfiled.Slip ↔ (a ≡ true) × (b ≡ true) × (c ≡ false))
+      × (n ≡ Some unfiled.Full ↔ (a ≡ true) × (b ≡ true) × (c ≡ true) × (d ≡ false))
+      × (n ≡ None ↔ (a ≡ true) × (b ≡ true) × (c ≡ true) × (d ≡ true))
 
-  says : (a b c d : Bool) → Says (cond a (cond b (cond c (cond d 0 20) 17) 1) 19) a b c d
+  says : (a b c d : Bool)
+      → Says (cond a (cond b (cond c (cond d None (Some unfiled.Full)) (Some unfiled.Slip)) (Some unfiled.Clock)) (Some unfiled.NoCache)) a b c d
   says false b c d = (
     (λ e. refl, λ h. refl),
-    (λ e. absurd (omega arith), λ h. impossible h.0),
-    (λ e. absurd (omega arith), λ h. impossible h.0),
-    (λ e. absurd (omega arith), λ h. impossible h.0),
-    (λ e. absurd (omega arith), λ h. impossible h.0),
+    (λ e. absurd (cc e), λ h. impossible h.0),
+    (λ e. absurd (cc e), λ h. impossible h.0),
+    (λ e. absurd (cc e), λ h. impossible h.0),
+    (λ e. absurd (cc e), λ h. impossible h.0),
   )
   says true false c d = (
-    (λ e. absurd (omega arith), λ h. impossible (sym h)),
+    (λ e. absurd (cc e), λ h. impossible (sym h)),
     (λ e. (refl, refl), λ h. refl),
-    (λ e. absurd (omega arith), λ h. impossible h.1),
-    (λ e. absurd (omega arith), λ h. impossible h.1),
-    (λ e. absurd (omega arith), λ h. impossible h.1),
+    (λ e. absurd (cc e), λ h. impossible h.1),
+    (λ e. absurd (cc e), λ h. impossible h.1),
+    (λ e. absurd (cc e), λ h. impossible h.1),
   )
   says true true false d = (
-    (λ e. absurd (omega arith), λ h. impossible (sym h)),
-    (λ e. absurd (omega arith), λ h. impossible (sym h.1)),
+    (λ e. absurd (cc e), λ h. impossible (sym h)),
+    (λ e. absurd (cc e), λ h. impossible (sym h.1)),
     (λ e. (refl, refl, refl), λ h. refl),
-    (λ e. absurd (omega arith), λ h. impossible h.2),
-    (λ e. absurd (omega arith), λ h. impossible h.2),
+    (λ e. absurd (cc e), λ h. impossible h.2),
+    (λ e. absurd (cc e), λ h. impossible h.2),
   )
   says true true true false = (
-    (λ e. absurd (omega arith), λ h. impossible (sym h)),
-    (λ e. absurd (omega arith), λ h. impossible (sym h.1)),
-    (λ e. absurd (omega arith), λ h. impossible (sym h.2)),
+    (λ e. absurd (cc e), λ h. impossible (sym h)),
+    (λ e. absurd (cc e), λ h. impossible (sym h.1)),
+    (λ e. absurd (cc e), λ h. impossible (sym h.2)),
     (λ e. (refl, refl, refl, refl), λ h. refl),
-    (λ e. absurd (omega arith), λ h. impossible h.3),
+    (λ e. absurd (cc e), λ h. impossible h.3),
   )
   says true true true true = (
-    (λ e. absurd (omega arith), λ h. impossible (sym h)),
-    (λ e. absurd (omega arith), λ h. impossible (sym h.1)),
-    (λ e. absurd (omega arith), λ h. impossible (sym h.2)),
-    (λ e. absurd (omega arith), λ h. impossible (sym h.3)),
+    (λ e. absurd (cc e), λ h. impossible (sym h)),
+    (λ e. absurd (cc e), λ h. impossible (sym h.1)),
+    (λ e. absurd (cc e), λ h. impossible (sym h.2)),
+    (λ e. absurd (cc e), λ h. impossible (sym h.3)),
     (λ e. (refl, refl, refl, refl), λ h. refl),
   )
 
-  -- 19 no such cache; 1 the clock; 17 the slip; 20 no place; none
+  -- no such cache; the clock; the slip; no place; none
   pub refusal_exactly : Says r (is_cache s) (clock_ok clock) (is_said (says_of t)) (ltb (takes clock s t) places)
   unfolding filing_refusal
   refusal_exactly = says (is_cache s) (clock_ok clock) (is_said (says_of t)) (ltb (takes clock s t) places)
 
   -- ---- a refused filing
 
-  pub filed_refused : (r ≡ 0 → ⊥) → (filed_of clock s t ≡ Refused r) × (buffer_of clock s t ≡ s)
+  pub filed_refused : (e : Unfiled) → r ≡ Some e → (filed_of clock s t ≡ Err e) × (buffer_of clock s t ≡ s)
   unfolding filed_of buffer_of
-  filed_refused h = (rw (ne_eqb r 0 h), rw (ne_eqb r 0 h))
+  filed_refused e h = (
+    ap (λ (x : Option Unfiled). filed_by x (count card_at (room_after clock s t))) h,
+    ap (λ (x : Option Unfiled). left_by x (flatten (room_after clock s t)) s) h,
+  )
 
-  pub refused_keeps : (n : ℕ) → filed_of clock s t ≡ Refused n → buffer_of clock s t ≡ s
-  unfolding filed_of
-  refused_keeps n e = go (eqb r 0) refl e
+  -- a filing is accepted, or leaves the buffer
+  pub accepted_or_left : (r ≡ None) ⊎ (buffer_of clock s t ≡ s)
+  accepted_or_left = go r refl
     where
-      go : (u : Bool) → eqb r 0 ≡ u → cond u (Count (count card_at (room_after clock s t))) (Refused r) ≡ Refused n → buffer_of clock s t ≡ s
-      go true q e = let z : ◌≡◌ {A = ℕ} 0 1 = cc e in absurd (omega arith)
-      go false q e = (filed_refused (eqb-false r 0 q)).1
+      go : (x : Option Unfiled) → r ≡ x → (r ≡ None) ⊎ (buffer_of clock s t ≡ s)
+      go None h = inl h
+      go (Some e) h = inr (filed_refused e h).1
 
   -- it answers a number of places exactly if it is accepted
-  pub count_accepted : (n : ℕ) → filed_of clock s t ≡ Count n → r ≡ 0
-  unfolding filed_of
-  count_accepted n e = go (eqb r 0) refl e
+  pub count_accepted : (n : ℕ) → filed_of clock s t ≡ Ok n → r ≡ None
+  count_accepted n q = go r refl
     where
-      go : (u : Bool) → eqb r 0 ≡ u → cond u (Count (count card_at (room_after clock s t))) (Refused r) ≡ Count n → r ≡ 0
-      go true q e = eqb-true r 0 q
-      go false q e = let z : ◌≡◌ {A = ℕ} 0 1 = cc e in absurd (omega arith)
+      go : (x : Option Unfiled) → r ≡ x → r ≡ None
+      go None h = h
+      go (Some e) h = let z : Err e ≡ Ok n = sym (filed_refused e h).0 ∙ q in absurd (cc z)
 
-  -- and a refusal's number exactly if that is its first
-  pub refused_number : (n : ℕ) → (n ≡ 0 → ⊥) → filed_of clock s t ≡ Refused n ↔ r ≡ n
+  -- and a refusal exactly if that is its first
+  pub refused_number : (e : Unfiled) → filed_of clock s t ≡ Err e ↔ r ≡ Some e
   unfolding filed_of
-  refused_number n z = (λ e. go (eqb r 0) refl e, λ e. (filed_refused (λ q. z (sym e ∙ q))).0 ∙ ap Refused e)
+  refused_number e = (λ q. go r refl q, λ h. (filed_refused e h).0)
     where
-      go : (u : Bool) → eqb r 0 ≡ u → cond u (Count (count card_at (room_after clock s t))) (Refused r) ≡ Refused n → r ≡ n
-      go true q e = let z : ◌≡◌ {A = ℕ} 0 1 = cc e in absurd (omega arith)
-      go false q e = cc e
+      go : (x : Option Unfiled) → r ≡ x → filed_by x (count card_at (room_after clock s t)) ≡ Err e → x ≡ Some e
+      go None h q = absurd (cc q)
+      go (Some y) h q = let z : y ≡ e = cc q in ap Some z
+
+  pub refused_keeps : (e : Unfiled) → filed_of clock s t ≡ Err e → buffer_of clock s t ≡ s
+  refused_keeps e q = (filed_refused e ((refused_number e).0 q)).1

@@ -2,8 +2,8 @@
 -- unchanged, refused_19, refused_1, refused_17, refused_20, accepted_exactly, filing_answers.
 -- `filed_of clock s t` is what filing the octets t into the buffer s answers, `buffer_of clock s t` what it leaves there.
 -- Accepted filings are in FileTheorem. Assumes nothing.
-use Rattle.std.specs.Prelude.{ℕ, ◌⊎◌, ◌↔◌, ◌≡◌, refl, Bool, true, false, ltb}
-use Rattle.std.proofs.Common.{arith, inl, inr, ◌∙◌}
+use Rattle.std.specs.Prelude.{ℕ, ◌⊎◌, ◌↔◌, ◌≡◌, refl, Bool, true, false, ltb, Ok, Err}
+use Rattle.std.proofs.Common.{inl, inr, ◌∙◌}
 use Rattle.std.proofs.Math.Path.{sym}
 use mathlib.Core.List.{List, []}
 use Rattle.std.proofs.Math.ListN.{length}
@@ -14,7 +14,8 @@ use Rattle.slip.specs.Slip.{card_octets}
 use Rattle.cache_room.specs.Room.{count}
 use Rattle.cache_room.proofs.TakenLaws.{taken_none}
 use Rattle.freshness.specs.declared.Clock.{Clock}
-use Rattle.cache_rules.specs.declared.Filed.TheVariants.{Count, Refused}
+use Rattle.cache_rules.specs.declared.Unfiled.{Unfiled}
+use Rattle.cache_rules.specs.declared.Unfiled.TheVariants as unfiled
 use Rattle.cache_rules.specs.Place.{places, card_at, is_said, place_of, is_stale, says_of}
 use Rattle.cache_rules.proofs.PlaceLaws.{place_card}
 use Rattle.freshness.specs.Clock.{clock_ok}
@@ -31,25 +32,25 @@ true_from false h = absurd (h refl)
 
 module _ (clock : Clock) (s t : List ℕ) where
   -- a refused filing leaves every octet
-  pub unchanged : (n : ℕ) → filed_of clock s t ≡ Refused n → buffer_of clock s t ≡ s
+  pub unchanged : (e : Unfiled) → filed_of clock s t ≡ Err e → buffer_of clock s t ≡ s
   unchanged = refusal.refused_keeps clock s t
 
-  -- each refusal exactly if its test fails and those before it pass: 19, 1, 17, 20
-  pub refused_19 : filed_of clock s t ≡ Refused 19 ↔ is_cache s ≡ false
+  -- each refusal exactly if its test fails and those before it pass: 19 no such cache, 1 the clock, 17 the slip, 20 no place
+  pub refused_19 : filed_of clock s t ≡ Err unfiled.NoCache ↔ is_cache s ≡ false
   refused_19 =
-      let n = refusal.refused_number clock s t 19 (λ z. omega arith) in
+      let n = refusal.refused_number clock s t unfiled.NoCache in
       let x = (refusal.refusal_exactly clock s t).0 in
       (λ e. x.0 (n.0 e), λ h. n.1 (x.1 h))
 
-  pub refused_1 : filed_of clock s t ≡ Refused 1 ↔ (is_cache s ≡ true) × (clock_ok clock ≡ false)
+  pub refused_1 : filed_of clock s t ≡ Err unfiled.Clock ↔ (is_cache s ≡ true) × (clock_ok clock ≡ false)
   refused_1 =
-      let n = refusal.refused_number clock s t 1 (λ z. omega arith) in
+      let n = refusal.refused_number clock s t unfiled.Clock in
       let x = (refusal.refusal_exactly clock s t).1 in
       (λ e. x.0 (n.0 e), λ h. n.1 (x.1 h))
 
-  pub refused_17 : filed_of clock s t ≡ Refused 17 ↔ (is_cache s ≡ true) × (clock_ok clock ≡ true) × (is_said (says_of t) ≡ false)
+  pub refused_17 : filed_of clock s t ≡ Err unfiled.Slip ↔ (is_cache s ≡ true) × (clock_ok clock ≡ true) × (is_said (says_of t) ≡ false)
   refused_17 =
-      let n = refusal.refused_number clock s t 17 (λ z. omega arith) in
+      let n = refusal.refused_number clock s t unfiled.Slip in
       let x = (refusal.refusal_exactly clock s t).2 in
       (λ e. x.0 (n.0 e), λ h. n.1 (x.1 h))
 
@@ -68,16 +69,16 @@ module _ (clock : Clock) (s t : List ℕ) where
               (rw l at (x.1 (λ j b c. m j (rw l at b, c ∙ y), λ j b. n j (rw l at b)))),
         )
 
-    pub refused_20 : filed_of clock s t ≡ Refused 20 ↔ (is_cache s ≡ true) × (clock_ok clock ≡ true) × (is_said (says_of t) ≡ true) × Full clock s (says_of t).card
+    pub refused_20 : filed_of clock s t ≡ Err unfiled.Full ↔ (is_cache s ≡ true) × (clock_ok clock ≡ true) × (is_said (says_of t) ≡ true) × Full clock s (says_of t).card
     refused_20 =
-        let n = refusal.refused_number clock s t 20 (λ z. omega arith) in
+        let n = refusal.refused_number clock s t unfiled.Full in
         let x = (refusal.refusal_exactly clock s t).3 in (
           λ e. let (a, b, c, d) = x.0 (n.0 e) in (a, b, c, (full_exactly c).0 d),
           λ (a, b, c, d). n.1 (x.1 (a, b, c, (full_exactly c).1 d)),
         )
 
     -- accepted exactly if no test fails
-    pub accepted_exactly : ((n : ℕ) × (filed_of clock s t ≡ Count n))
+    pub accepted_exactly : ((n : ℕ) × (filed_of clock s t ≡ Ok n))
         ↔ (is_cache s ≡ true) × (clock_ok clock ≡ true) × (is_said (says_of t) ≡ true) × (Full clock s (says_of t).card → ⊥)
     accepted_exactly =
         let x = (refusal.refusal_exactly clock s t).4 in (
@@ -89,19 +90,19 @@ module _ (clock : Clock) (s t : List ℕ) where
         )
 
     -- there is no other refusal
-    pub filing_answers : ((n : ℕ) × (filed_of clock s t ≡ Count n))
-        ⊎ (filed_of clock s t ≡ Refused 19)
-        ⊎ (filed_of clock s t ≡ Refused 1)
-        ⊎ (filed_of clock s t ≡ Refused 17)
-        ⊎ (filed_of clock s t ≡ Refused 20)
+    pub filing_answers : ((n : ℕ) × (filed_of clock s t ≡ Ok n))
+        ⊎ (filed_of clock s t ≡ Err unfiled.NoCache)
+        ⊎ (filed_of clock s t ≡ Err unfiled.Clock)
+        ⊎ (filed_of clock s t ≡ Err unfiled.Slip)
+        ⊎ (filed_of clock s t ≡ Err unfiled.Full)
     filing_answers = go (is_cache s) (clock_ok clock) (is_said (says_of t)) (ltb (takes clock s t) places) refl refl refl refl
       where
         go : (a b c d : Bool) → is_cache s ≡ a → clock_ok clock ≡ b → is_said (says_of t) ≡ c → ltb (takes clock s t) places ≡ d
-            → ((n : ℕ) × (filed_of clock s t ≡ Count n))
-            ⊎ (filed_of clock s t ≡ Refused 19)
-            ⊎ (filed_of clock s t ≡ Refused 1)
-            ⊎ (filed_of clock s t ≡ Refused 17)
-            ⊎ (filed_of clock s t ≡ Refused 20)
+            → ((n : ℕ) × (filed_of clock s t ≡ Ok n))
+            ⊎ (filed_of clock s t ≡ Err unfiled.NoCache)
+            ⊎ (filed_of clock s t ≡ Err unfiled.Clock)
+            ⊎ (filed_of clock s t ≡ Err unfiled.Slip)
+            ⊎ (filed_of clock s t ≡ Err unfiled.Full)
         go false b c d x y z w = inr (inl (refused_19.1 x))
         go true false c d x y z w = inr (inr (inl (refused_1.1 (x, y))))
         go true true false d x y z w = inr (inr (inr (inl (refused_17.1 (x, y, z)))))

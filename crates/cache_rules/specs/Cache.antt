@@ -1,14 +1,14 @@
 -- The cache (document 02, C-11): what it is, what filing a slip does, what asking for a card gives.
--- room_of, place_in, all_fit, is_cache; takes, filing_refusal, room_after, filed_of, buffer_of; told, not_held, missed_at,
--- said_at, ask_of.
+-- room_of, place_in, all_fit, is_cache; takes, filing_refusal, room_after, filed_by, left_by, filed_of, buffer_of; told,
+-- not_held, missed_at, said_at, ask_of.
 -- A refusal's number: 19 no such cache; 1 a card, time or tolerance out of range; 17 no slip of kind 01 to 03; 20 no
--- place. Which place has a card, in plain words, is in Has; many filings are in Many.
+-- place. A filing's refusals have their numbers in Numbers. Which place has a card, in plain words, is in Has; many
+-- filings are in Many.
 -- Laws are in CacheLaws, RefusalLaws, FilingLaws, AfterLaws, AskLaws and HeldLaws. Assumes nothing.
-use Rattle.std.specs.Prelude.{ℕ, ◌*◌, Bool, true, false, cond, eqb, ltb, length, get_or}
+use Rattle.std.specs.Prelude.{ℕ, ◌*◌, Bool, true, false, cond, eqb, ltb, length, get_or, Option, None, Some, Ok, Err}
 use mathlib.Core.List.{List, [], ◌∷◌, flatten}
 use Rattle.freshness.specs.Clock.{clock_ok}
 use Rattle.freshness.specs.Fresh.{fresh_of, fresh_refusal}
-use Rattle.freshness.specs.declared.Next.TheVariants.{At}
 use Rattle.answer.specs.declared.Card.{Card}
 use Rattle.answer.specs.declared.Verdict.{Verdict}
 use Rattle.answer.specs.declared.Answer.{Answer}
@@ -18,10 +18,10 @@ use Rattle.slip.specs.Slip.{card_octets}
 use Rattle.cache_room.specs.Parts.{parts_of}
 use Rattle.cache_room.specs.Room.{held_at, cards_once, count, taken_at, filed_in}
 use Rattle.freshness.specs.declared.Clock.{Clock}
-use Rattle.cache_rules.specs.declared.Filed.{Filed}
-use Rattle.cache_rules.specs.declared.Filed.TheVariants.{Count, Refused}
-use Rattle.cache_rules.specs.declared.Asked.TheVariants.{NotHeld, Says}
+use Rattle.cache_rules.specs.declared.Unfiled.{Unfiled}
+use Rattle.cache_rules.specs.declared.Unfiled.TheVariants as unfiled
 use Rattle.cache_rules.specs.declared.Told.{Told}
+use Rattle.cache_rules.specs.Numbers.{Filed}
 use Rattle.cache_rules.specs.Place.{width, places, card_at, says_at, is_said, place_ok, place_of, this_of, next_of, is_stale, wins_of, says_of}
 
 -- ---- a cache
@@ -44,21 +44,31 @@ is_cache s = cond (eqb (length s) (width * places)) (cond (all_fit (room_of s)) 
 
 -- ---- filing a slip
 
+-- what is answered, by the refusal if there is one
+abbrev pub filed_by : Option Unfiled → ℕ → Filed
+filed_by None n = Ok n
+filed_by (Some e) n = Err e
+
+-- what is left: the new octets, or those that were there
+abbrev pub left_by : Option Unfiled → List ℕ → List ℕ → List ℕ
+left_by None new old = new
+left_by (Some e) new old = old
+
 module _ (clock : Clock) (s t : List ℕ) where
   -- the place that the slip takes: its card's, else the first that is empty or stale; 64 where there is none
   unfoldable pub takes : ℕ
   takes = taken_at card_at (is_stale clock) (card_at (place_of t)) (room_of s)
 
-  -- 19, 1, 17, 20, or 0 for none
-  unfoldable pub filing_refusal : ℕ
+  -- 19, 1, 17, 20, or none
+  unfoldable pub filing_refusal : Option Unfiled
   filing_refusal =
       cond (is_cache s)
       (cond (clock_ok clock)
       (cond (is_said (says_of t))
-      (cond (ltb takes places) 0 20)
-      17)
-      1)
-      19
+      (cond (ltb takes places) None (Some unfiled.Full))
+      (Some unfiled.Slip))
+      (Some unfiled.Clock))
+      (Some unfiled.NoCache)
 
   -- the places afterwards, where it is not refused
   unfoldable pub room_after : List (List ℕ)
@@ -66,24 +76,24 @@ module _ (clock : Clock) (s t : List ℕ) where
 
   -- what it answers
   unfoldable pub filed_of : Filed
-  filed_of = cond (eqb filing_refusal 0) (Count (count card_at room_after)) (Refused filing_refusal)
+  filed_of = filed_by filing_refusal (count card_at room_after)
 
   -- what it leaves in the buffer
   unfoldable pub buffer_of : List ℕ
-  buffer_of = cond (eqb filing_refusal 0) (flatten room_after) s
+  buffer_of = left_by filing_refusal (flatten room_after) s
 
 -- ---- asking for a card
 
 -- an answer as it is told, a refusal's too
 unfoldable pub told : Answer → Told
-told a = record { asked = Says a.verdict; card = a.card }
+told a = record { asked = Some a.verdict; card = a.card }
 
 unfoldable pub not_held : Told
-not_held = record { asked = NotHeld; card = empty_card }
+not_held = record { asked = None; card = empty_card }
 
 -- the number of the rule that a slip's times miss at a time, by the check's own judgement, or 0
 unfoldable pub missed_at : Clock → Verdict → ℕ
-missed_at clock v = fresh_refusal (fresh_of (this_of v) (At (next_of v)) clock.now clock.tolerance)
+missed_at clock v = fresh_refusal (fresh_of (this_of v) (Some (next_of v)) clock.now clock.tolerance)
 
 -- what a slip's answer is at a time: refused where its times miss a rule, else as it stands
 unfoldable pub said_at : Clock → Answer → Answer

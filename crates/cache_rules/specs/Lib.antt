@@ -1,6 +1,6 @@
 pub mod Place
+pub mod Numbers
 pub mod Cache
 pub mod Has
-pub mod Numbers
 pub mod Many
 pub mod Examples

@@ -1,6 +1,10 @@
 // The cache of a room (document 02, C-11): what a cache is, what filing a slip does to it, and what asking
-// for a card gives. Definitions, laws and theorems: specs/ has them all, and there is no function here.
+// for a card gives. Definitions are in specs/, laws and theorems in proofs/. The one function here gives the
+// number of a refusal.
 #![tactic(auto)]
+
+ghost use Rattle.std.specs.Prelude.{◌≡◌};
+ghost use Rattle.cache_rules.specs.Numbers.{unfiled_number};
 
 use answer::{Card, Verdict};
 
@@ -9,24 +13,40 @@ pub const WIDTH: usize = 87;
 
 pub const PLACES: usize = 64;
 
-// What a filing answers: how many places are then not empty, or a refusal's number.
-#[derive(Clone, Copy)]
-pub enum Filed {
-    Count(usize),
-    Refused(u8),
+// Why a filing is refused.
+#[derive(Clone, Copy, Debug, PartialEq, Eq)]
+pub enum Unfiled {
+    // The buffer is no cache (19).
+    NoCache,
+    // The time or the tolerance is out of range (1).
+    Clock,
+    // The octets are no slip of kind 01 to 03 (17).
+    Slip,
+    // The slip's card has no place, and none is empty or stale (20).
+    Full,
 }
 
-// What an ask answers: that no place has the card, or what its slip says at that time. A refusal is said
-// too.
-#[derive(Clone, Copy)]
-pub enum Asked {
-    NotHeld,
-    Says(Verdict),
+impl Unfiled {
+    // The refusal's number.
+    pub fn number(self) -> u8
+        ensures { result ≡ unfiled_number self }
+    {
+        match self {
+            Unfiled::NoCache => 19,
+            Unfiled::Clock => 1,
+            Unfiled::Slip => 17,
+            Unfiled::Full => 20,
+        }
+    }
 }
 
-// The same with the card beside it, empty unless an answer is said.
+// What a filing answers: how many places are then not empty, or why it is refused.
+pub type Filed = Result<usize, Unfiled>;
+
+// What an ask answers: what the slip of the card says at that time, a refusal too, or nothing where no
+// place has the card; and the card beside it, empty unless an answer is said.
 #[derive(Clone, Copy)]
 pub struct Told {
-    pub asked: Asked,
+    pub asked: Option<Verdict>,
     pub card: Card,
 }

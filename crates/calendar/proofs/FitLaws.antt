@@ -1,5 +1,5 @@
 -- What each test of the code leaves, as the contract asks it at that return.
--- pair_number, pair_none: two digits; none_fits, clock_fit: seven pairs of them; time_long, time_unzoned, octets_fit: the octets;
+-- pair_number, pair_none: two digits; none_fits, clock_fit: seven pairs of them; octets_unfit, octets_fit: the octets;
 -- read_at, read_none: the octets, by whether they fit.
 -- Assumes nothing.
 use Prim.Native.Nat.{ℕ, ◌+◌, ◌-◌, ◌*◌, ◌≤◌, ◌<◌}
@@ -7,17 +7,16 @@ use native.Mathlib.Omega.{arith}
 use mathlib.Core.Path.{◌≡◌, refl, sym, ap, ◌∙◌}
 use mathlib.Core.Logic.{⊎_elim}
 use mathlib.Core.List.{List}
-use mathlib.Core.Bool.{Bool, true, false, cond, and-false}
-use lib.Dec.{leb}
+use mathlib.Core.Bool.{Bool, true, false, cond, ◌&&◌}
+use lib.Dec.{leb, eqb}
 use lib.ListN.{length, get_or}
-use borrow.Author.Tests.{leb-true, leb-false, eq-eqb, ne_eqb}
+use borrow.Author.Tests.{leb-true, leb-false, eq-eqb, eqb-true}
+use Rattle.std.specs.Prelude.{Option, Some, None}
 use Rattle.calendar.specs.Date.{month_len}
 use Rattle.calendar.specs.Time.{pair_of, clock_of, pair_at, time_of, is_time}
 use Rattle.calendar.specs.FormLaws.{Digits, pair_digits, pair_cases, ClockFits, clock_at_lem, clock_sound}
 use Rattle.calendar.specs.Plain.{plain_seconds}
 use Rattle.calendar.specs.PlainLaws.{plain_time}
-use Rattle.calendar.specs.declared.Time.{Time}
-use Rattle.calendar.specs.declared.Time.TheVariants.{At, No}
 
 module _ (a b : ℕ) where
   pub pair_number : Digits a b → a * 10 + b - 528 ≡ pair_of a b
@@ -31,9 +30,9 @@ module _ (c y mo d h mi se : ℕ) where
   unfolding is_time
   none_fits f = go (clock_of c y mo d h mi se) refl
     where
-      go : (t : Time) → clock_of c y mo d h mi se ≡ t → false ≡ is_time t
-      go (At n) e = absurd (f (clock_sound c y mo d h mi se n e).0)
-      go No e = refl
+      go : (t : Option ℕ) → clock_of c y mo d h mi se ≡ t → false ≡ is_time t
+      go (Some n) e = absurd (f (clock_sound c y mo d h mi se n e).0)
+      go None e = refl
 
   -- where all but the day is tested, the day settles it
   pub clock_fit : c < 100 → y < 100 → 1970 ≤ c * 100 + y → (1 ≤ mo) × (mo ≤ 12) → 1 ≤ d → h < 24 → mi < 60 → se < 60
@@ -47,13 +46,15 @@ module _ (c y mo d h mi se : ℕ) where
       none_fits (λ f. omega arith)
 
 module _ (s : List ℕ) where
-  pub time_long : (length s ≡ 15 → ⊥) → false ≡ is_time (time_of s)
+  -- another length, or another last octet
+  pub octets_unfit : (length s ≡ 15 → get_or s 14 0 ≡ 90 → ⊥) → false ≡ is_time (time_of s)
   unfolding time_of is_time
-  time_long p = simp (ne_eqb (length s) 15 p)
-
-  pub time_unzoned : (get_or s 14 0 ≡ 90 → ⊥) → false ≡ is_time (time_of s)
-  unfolding time_of is_time
-  time_unzoned p = simp (ne_eqb (get_or s 14 0) 90 p, and-false)
+  octets_unfit n = go (eqb (length s) 15) (eqb (get_or s 14 0) 90) _ refl refl
+    where
+      go : (a b : Bool) (t : Option ℕ) → eqb (length s) 15 ≡ a → eqb (get_or s 14 0) 90 ≡ b → false ≡ is_time (cond (a && b) t None)
+      go true true t e f = absurd (n (eqb-true _ _ e) (eqb-true _ _ f))
+      go true false t e f = refl
+      go false b t e f = refl
 
   pub octets_fit : length s ≡ 15 → get_or s 14 0 ≡ 90 → (c y mo d h mi se : ℕ) (b : Bool) → b ≡ is_time (clock_of c y mo d h mi se)
       → c ≡ pair_at s 0 → y ≡ pair_at s 2 → mo ≡ pair_at s 4 → d ≡ pair_at s 6 → h ≡ pair_at s 8 → mi ≡ pair_at s 10 → se ≡ pair_at s 12
@@ -63,13 +64,13 @@ module _ (s : List ℕ) where
       simp (eq-eqb (length s) 15 l, eq-eqb (get_or s 14 0) 90 z) (e ∙ rw (e₁, e₂, e₃, e₄, e₅, e₆, e₇))
 
   -- whether the octets fit settles what is read of them
-  read_is : (t : Time) → time_of s ≡ t → (b : Bool) → b ≡ is_time t → cond b (At (plain_seconds s)) No ≡ t
+  read_is : (t : Option ℕ) → time_of s ≡ t → (b : Bool) → b ≡ is_time t → cond b (Some (plain_seconds s)) None ≡ t
   unfolding is_time
-  read_is (At n) f b e = rw (e, plain_time s n f)
-  read_is No f b e = rw e
+  read_is (Some n) f b e = rw (e, plain_time s n f)
+  read_is None f b e = rw e
 
-  pub read_at : (b : Bool) → b ≡ is_time (time_of s) → b ≡ true → (n : ℕ) → n ≡ plain_seconds s → At n ≡ time_of s
+  pub read_at : (b : Bool) → b ≡ is_time (time_of s) → b ≡ true → (n : ℕ) → n ≡ plain_seconds s → Some n ≡ time_of s
   read_at b e t n p = rw (p, ← read_is (time_of s) refl b e, t)
 
-  pub read_none : (b : Bool) → b ≡ is_time (time_of s) → b ≡ false → No ≡ time_of s
+  pub read_none : (b : Bool) → b ≡ is_time (time_of s) → b ≡ false → None ≡ time_of s
   read_none b e t = rw (← read_is (time_of s) refl b e, t)

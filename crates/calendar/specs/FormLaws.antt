@@ -3,7 +3,7 @@
 -- form_read: a real moment's octets read as its seconds; read_form: no other octets read as a number;
 -- form_small: octets are below 256. Other crates need only TimeLaws.
 -- Assumes nothing.
-use Rattle.std.specs.Prelude.{ℕ, zero, suc, ◌+◌, ◌-◌, ◌*◌, ◌/◌, ◌%◌, ◌≤◌, ◌<◌, ◌≡◌, List, [], ◌∷◌, ◌++◌, ◌⊎◌, Bool, cond, ◌&&◌, eqb, length, get_or, drop}
+use Rattle.std.specs.Prelude.{ℕ, zero, suc, ◌+◌, ◌-◌, ◌*◌, ◌/◌, ◌%◌, ◌≤◌, ◌<◌, ◌≡◌, List, [], ◌∷◌, ◌++◌, Option, Some, None, ◌⊎◌, Bool, cond, ◌&&◌, eqb, length, get_or, drop}
 use Rattle.std.proofs.Common.{arith, ap, ◌∙◌, ⊎_elim, drop_of_length-le, drop-cons}
 use Rattle.std.proofs.Math.Path.{refl}
 use Rattle.std.proofs.Math.Logic.{inl, inr}
@@ -13,8 +13,6 @@ use borrow.Author.Tests.{ltb-true, leb-true, eqb-true, lt-ltb, le-leb}
 use Rattle.calendar.specs.DateLaws.{and_l, and_r, month_within}
 use Rattle.calendar.specs.Time.{Moment, is_real, seconds_of, is_digit, pair_of, written, clock_of, pair_at, time_of, two_digits, moment_form}
 use Rattle.calendar.specs.MomentLaws.{Real, real_facts, real_is}
-use Rattle.calendar.specs.declared.Time.{Time}
-use Rattle.calendar.specs.declared.Time.TheVariants.{At, No}
 
 -- two octets that are digits
 abbrev pub Digits : ℕ → ℕ → Type 0
@@ -62,7 +60,7 @@ spread_all : (n : ℕ) (s : List ℕ) → length s ≡ n → s ≡ spread n 0 s
 spread_all n s e = spread_drop n 0 s (omega arith)
 
 -- a choice between a time and none that is a time
-cond_at : (b : Bool) (t : Time) (n : ℕ) → cond b t No ≡ At n → (b ≡ true) × (t ≡ At n)
+cond_at : (b : Bool) (t : Option ℕ) (n : ℕ) → cond b t None ≡ Some n → (b ≡ true) × (t ≡ Some n)
 cond_at true t n e = (refl, e)
 cond_at false t n e = (cc, cc)
 
@@ -72,19 +70,19 @@ module _ (c y mo d h mi se : ℕ) where
   ClockFits = (c < 100) × (y < 100) × Real (written c y mo d h mi se)
 
   -- they read as its seconds, and only they read as a number
-  pub clock_at_lem : ClockFits → clock_of c y mo d h mi se ≡ At (seconds_of (written c y mo d h mi se))
+  pub clock_at_lem : ClockFits → clock_of c y mo d h mi se ≡ Some (seconds_of (written c y mo d h mi se))
   unfolding clock_of
   clock_at_lem (p, q, r) = simp (lt-ltb c 100 p, lt-ltb y 100 q, real_is (written c y mo d h mi se) r)
 
-  pub clock_sound : (n : ℕ) → clock_of c y mo d h mi se ≡ At n → ClockFits × (seconds_of (written c y mo d h mi se) ≡ n)
+  pub clock_sound : (n : ℕ) → clock_of c y mo d h mi se ≡ Some n → ClockFits × (seconds_of (written c y mo d h mi se) ≡ n)
   unfolding clock_of
   clock_sound n e =
-      let f = cond_at (ltb c 100 && ltb y 100 && is_real (written c y mo d h mi se)) (At (seconds_of (written c y mo d h mi se))) n e in
+      let f = cond_at (ltb c 100 && ltb y 100 && is_real (written c y mo d h mi se)) (Some (seconds_of (written c y mo d h mi se))) n e in
       let t = f.0 in
       ((ltb-true _ _ (search (and_l, and_r)), ltb-true _ _ (search (and_l, and_r)), real_facts _ (search (and_l, and_r))), cc)
 
 -- the octets of a real moment read as its seconds
-pub form_read : (m : Moment) → Real m → time_of (moment_form m) ≡ At (seconds_of m)
+pub form_read : (m : Moment) → Real m → time_of (moment_form m) ≡ Some (seconds_of m)
 unfolding time_of moment_form
 form_read m r =
     let y : m.year / 100 * 100 + m.year % 100 ≡ m.year = omega arith in
@@ -120,7 +118,7 @@ read_octets s len z (c, y, r) =
     (two_pair _ _ _ _ (omega arith) (rw z))))))))
 
 -- octets that read as a number are those of a real moment with that many seconds
-pub read_form : (s : List ℕ) (n : ℕ) → time_of s ≡ At n → (m : Moment) × Real m × (s ≡ moment_form m) × (seconds_of m ≡ n)
+pub read_form : (s : List ℕ) (n : ℕ) → time_of s ≡ Some n → (m : Moment) × Real m × (s ≡ moment_form m) × (seconds_of m ≡ n)
 unfolding time_of moment_form
 read_form s n e =
     let f = cond_at (eqb (length s) 15 && eqb (get_or s 14 0) 90) _ n e in

@@ -1,7 +1,7 @@
 -- The seconds of octets that are a time, without a test of their digits, are the time's own.
 -- KnownPairs, clock_known: pairs that pass the tests; plain_time.
 -- The definitions are in Plain and Time. Assumes nothing.
-use Rattle.std.specs.Prelude.{ℕ, ◌+◌, ◌-◌, ◌*◌, ◌/◌, ◌%◌, ◌≤◌, ◌<◌, ◌≡◌, List}
+use Rattle.std.specs.Prelude.{ℕ, ◌+◌, ◌-◌, ◌*◌, ◌/◌, ◌%◌, ◌≤◌, ◌<◌, ◌≡◌, List, Some}
 use Rattle.std.proofs.Common.{arith, ap, ◌∙◌}
 use borrow.Author.Tests.{le-ltb}
 use Rattle.calendar.specs.Date.{days_of}
@@ -10,7 +10,6 @@ use Rattle.calendar.specs.Time.{Moment, seconds_of, time_of, moment_form}
 use Rattle.calendar.specs.MomentLaws.{Real}
 use Rattle.calendar.specs.FormLaws.{read_form}
 use Rattle.calendar.specs.Plain.{raw_pair, raw_day, plain_clock, plain_seconds}
-use Rattle.calendar.specs.declared.Time.TheVariants.{At}
 
 module _ (c y mo d h mi se : ℕ) where
   -- the pairs pass each test of `plain_clock`
@@ -66,7 +65,7 @@ plain_form m r =
     ) (clock_form m r)
 
 -- octets that are a time
-pub plain_time : (s : List ℕ) (n : ℕ) → time_of s ≡ At n → plain_seconds s ≡ n
+pub plain_time : (s : List ℕ) (n : ℕ) → time_of s ≡ Some n → plain_seconds s ≡ n
 plain_time s n e =
     let (m, r, f, d) = read_form s n e in
     ap plain_seconds f ∙ plain_form m r ∙ d

@@ -2,11 +2,9 @@
 -- last_second; Moment, is_real, seconds_of; reading: is_digit, pair_of, written, clock_of, pair_at, time_of, is_time; writing: two_digits, moment_form, moment_of, time_form.
 -- That reading and writing undo each other is in TimeLaws.
 -- Assumes nothing.
-use Rattle.std.specs.Prelude.{ℕ, ◌+◌, ◌-◌, ◌*◌, ◌/◌, ◌%◌, List, [], ◌∷◌, ◌++◌, Bool, true, false, cond, ◌&&◌, ltb, leb, eqb, length, get_or}
+use Rattle.std.specs.Prelude.{ℕ, ◌+◌, ◌-◌, ◌*◌, ◌/◌, ◌%◌, List, [], ◌∷◌, ◌++◌, Option, Some, None, Bool, true, false, cond, ◌&&◌, ltb, leb, eqb, length, get_or}
 use Rattle.calendar.specs.Split.{find}
 use Rattle.calendar.specs.Date.{year_len, month_len, days_of}
-use Rattle.calendar.specs.declared.Time.{Time}
-use Rattle.calendar.specs.declared.Time.TheVariants.{At, No}
 
 -- the last second of year 9999
 abbrev pub last_second : ℕ
@@ -46,26 +44,26 @@ abbrev pub written : ℕ → ℕ → ℕ → ℕ → ℕ → ℕ → ℕ → Mom
 written c y mo d h mi se = record { year = c * 100 + y; month = mo; day = d; hour = h; minute = mi; second = se }
 
 -- the time that seven pairs of digits write
-unfoldable pub clock_of : ℕ → ℕ → ℕ → ℕ → ℕ → ℕ → ℕ → Time
+unfoldable pub clock_of : ℕ → ℕ → ℕ → ℕ → ℕ → ℕ → ℕ → Option ℕ
 clock_of c y mo d h mi se =
     let m = written c y mo d h mi se in
-    cond (ltb c 100 && ltb y 100 && is_real m) (At (seconds_of m)) No
+    cond (ltb c 100 && ltb y 100 && is_real m) (Some (seconds_of m)) None
 
 -- the number that the two octets at a place write
 abbrev pub pair_at : List ℕ → ℕ → ℕ
 pair_at s i = pair_of (get_or s i 0) (get_or s (i + 1) 0)
 
 -- the time that 15 octets write, the last of them Z
-unfoldable pub time_of : List ℕ → Time
+unfoldable pub time_of : List ℕ → Option ℕ
 time_of s =
     cond (eqb (length s) 15 && eqb (get_or s 14 0) 90)
     (clock_of (pair_at s 0) (pair_at s 2) (pair_at s 4) (pair_at s 6) (pair_at s 8) (pair_at s 10) (pair_at s 12))
-    No
+    None
 
 -- whether a time was read
-unfoldable pub is_time : Time → Bool
-is_time (At n) = true
-is_time No = false
+unfoldable pub is_time : Option ℕ → Bool
+is_time (Some n) = true
+is_time None = false
 
 -- two decimal digits
 abbrev pub two_digits : ℕ → List ℕ

@@ -9,16 +9,7 @@ use crate::date;
 fn pair(a: u8, b: u8) -> u64
     ensures { result ≡ pair_of a b }
 {
-    if a < 48 {
-        return 100;
-    }
-    if 57 < a {
-        return 100;
-    }
-    if b < 48 {
-        return 100;
-    }
-    if 57 < b {
+    if a < 48 || 57 < a || b < 48 || 57 < b {
         return 100;
     }
     a as u64 * 10 + b as u64 - 528
@@ -36,32 +27,14 @@ fn pair_at(s: &[u8], i: usize) -> u64
 fn clock_fits(c: u64, y: u64, mo: u64, d: u64, h: u64, mi: u64, se: u64) -> bool
     ensures { result ≡ is_time (clock_of c y mo d h mi se) }
 {
-    if 100 <= c {
-        return false;
-    }
-    if 100 <= y {
+    if 100 <= c || 100 <= y {
         return false;
     }
     let year = c * 100 + y;
-    if year < 1970 {
+    if year < 1970 || mo < 1 || 12 < mo || d < 1 {
         return false;
     }
-    if mo < 1 {
-        return false;
-    }
-    if 12 < mo {
-        return false;
-    }
-    if d < 1 {
-        return false;
-    }
-    if 24 <= h {
-        return false;
-    }
-    if 60 <= mi {
-        return false;
-    }
-    if 60 <= se {
+    if 24 <= h || 60 <= mi || 60 <= se {
         return false;
     }
     date::day_fits(year, mo, d)
@@ -71,10 +44,7 @@ fn clock_fits(c: u64, y: u64, mo: u64, d: u64, h: u64, mi: u64, se: u64) -> bool
 pub fn time_fits(s: &[u8]) -> bool
     ensures { result ≡ is_time (time_of s.now) }
 {
-    if s.len() != 15 {
-        return false;
-    }
-    if s[14] != b'Z' {
+    if s.len() != 15 || s[14] != b'Z' {
         return false;
     }
     clock_fits(

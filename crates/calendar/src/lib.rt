@@ -1,7 +1,7 @@
 // Times: GeneralizedTime of 15 octets, YYYYMMDDHHMMSSZ, read as seconds since 1970.
 //
-// No public function requires anything. To `read_time` octets that are no such time get an answer that
-// says so; `time_fits` says only whether they are one; `seconds_of` is for octets of which that is known.
+// No public function requires anything. Of octets that are no such time `read_time` gives None; `time_fits` says
+// only whether they are one; `seconds_of` is for octets of which that is known.
 // Only `date` knows the months, and it has no list of them: their days come by division.
 #![tactic(auto)]
 
@@ -16,10 +16,3 @@ pub use reading::read_time;
 
 // The last second of year 9999.
 pub const LAST_SECOND: u64 = 253402300799;
-
-// The seconds since 1970-01-01 00:00:00, or that the octets are no time.
-#[derive(Clone, Copy)]
-pub enum Time {
-    At(u64),
-    No,
-}

@@ -28,19 +28,7 @@ fn plain_clock(c: u64, y: u64, mo: u64, d: u64, h: u64, mi: u64, se: u64) -> u64
     ensures { result ≡ plain_clock c y mo d h mi se }
 {
     let years = c * 100 + y;
-    if years < 55298 {
-        return 0;
-    }
-    if 63327 < years {
-        return 0;
-    }
-    if mo < 529 {
-        return 0;
-    }
-    if 540 < mo {
-        return 0;
-    }
-    if d < 529 {
+    if years < 55298 || 63327 < years || mo < 529 || 540 < mo || d < 529 {
         return 0;
     }
     let seconds = h * 3600 + mi * 60 + se;

@@ -4,7 +4,7 @@
 -- Part, part_of, form_found, form_content; small_left, small_right, small_content.
 -- The laws stand here, and what is made of them; the definitions in specs/PartLaws.
 -- Assumes nothing.
-use Rattle.std.specs.Prelude.{ℕ, ◌+◌, ◌^◌, ◌<◌, ◌≡◌, true, List, ◌++◌, length, take, drop}
+use Rattle.std.specs.Prelude.{ℕ, ◌+◌, ◌^◌, ◌<◌, ◌≡◌, true, List, ◌++◌, length, take, drop, Ok}
 use Rattle.std.proofs.Common.{arith, sym, ap, ◌∙◌, append_assoc, length-append, length-drop, take-append-drop, drop-drop, drop_at, length-take-le}
 use Rattle.std.proofs.Math.Seq.{take-append_seam}
 use Rattle.octets.specs.Octets.{Octets}
@@ -14,10 +14,10 @@ use Rattle.element.specs.Form.{head_form, head_size, form_of}
 use Rattle.element.specs.FormLaws.{head_length, form_length, form_before}
 use Rattle.element.specs.Header.{header_of}
 use Rattle.element.specs.HeaderLaws.{header_sound, header_complete}
-use Rattle.element.specs.declared.Header.TheVariants.{Found}
+use Rattle.element.specs.Places.{header}
 use Rattle.codec.specs.PartLaws.{Part}
 
-pub part_of : (s : List ℕ) (t h n : ℕ) → Octets s → header_of s ≡ Found t h n → Part s t (take n (drop h s)) (h + n)
+pub part_of : (s : List ℕ) (t h n : ℕ) → Octets s → header_of s ≡ Ok (header t h n) → Part s t (take n (drop h s)) (h + n)
 unfolding form_of
 part_of s t h n o e =
     let v = header_sound s t h n o e in
@@ -35,7 +35,7 @@ part_of s t h n o e =
 
 -- an element's octets have its header at their head
 pub form_found : (t : ℕ) (c r : List ℕ) → tag_ok t ≡ true → length c < 2 ^ 64
-    → header_of (form_of t c ++ r) ≡ Found t (head_size (length c)) (length c)
+    → header_of (form_of t c ++ r) ≡ Ok (header t (head_size (length c)) (length c))
 form_found t c r k lt = rw (form_before t c r) (header_complete t (length c) (c ++ r) k lt (simp length-append (omega arith)))
 
 -- and then its content

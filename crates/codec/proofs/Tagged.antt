@@ -4,7 +4,7 @@
 -- refuses the element's own place).
 -- The laws stand here, and what is made of them; the definitions in specs/Tagged.
 -- Assumes nothing.
-use Rattle.std.specs.Prelude.{ℕ, ◌+◌, ◌^◌, ◌≤◌, ◌<◌, ◌≡◌, Bool, List, ◌++◌, eqb, take}
+use Rattle.std.specs.Prelude.{ℕ, ◌+◌, ◌^◌, ◌≤◌, ◌<◌, ◌≡◌, Bool, List, ◌++◌, eqb, take, Ok, Err}
 use Rattle.std.proofs.Common.{arith, sym, ap}
 use Rattle.std.proofs.Math.Path.{refl}
 use Rattle.std.proofs.Math.Bool.{true, false, cond}
@@ -17,8 +17,7 @@ use Rattle.element.specs.Form.{form_of}
 use Rattle.element.specs.FormLaws.{form_length, form_octets}
 use Rattle.element.specs.Header.{header_of}
 use Rattle.element.specs.HeaderLaws.{header_inside, header_within}
-use Rattle.element.specs.declared.Header.{Header}
-use Rattle.element.specs.declared.Header.TheVariants.{Found, Refused}
+use Rattle.element.specs.Places.{HeaderRead}
 use Rattle.codec.specs.Codec.{got, bad, Content, Whole, Element}
 use Rattle.codec.specs.Outcome.{attach}
 use Rattle.codec.proofs.Outcome.{bad_got, attach_got, attach_bad, tested_got, start_head}
@@ -34,14 +33,15 @@ module _ {A : Type 0} (at : ℕ → ℕ → ℕ) (t : ℕ) (w : Whole A) where
   unfolding tagged_dec
   tagged_sound s a n o e = go (header_of s) refl e
     where
-      go : (x : Header) → header_of s ≡ x → tagged_of at t w.dec s x ≡ got a n → w.ok a × (s ≡ tagged_enc a ++ drop n s)
-      go (Refused p) ex e = bad_got e
-      go (Found u h m) ex e =
-          let q = tested_got (eqb u t) _ _ a n e in
-          let r = attach_got (at h) (h + m) (w.dec (take m (drop h s))) a n q.1 in
-          let g = part_of s u h m o ex in
-          let v = w.sound (take m (drop h s)) a g.octets r.0 in
-          (v.0, rw (eqb-true u t q.0, r.1, v.1) at g.same)
+      go : (x : HeaderRead) → header_of s ≡ x → tagged_of at t w.dec s x ≡ got a n → w.ok a × (s ≡ tagged_enc a ++ drop n s)
+      go (Err p) ex e = bad_got e
+      go (Ok h) ex e =
+          let c = take h.len (drop h.start s) in
+          let q = tested_got (eqb h.tag t) _ _ a n e in
+          let r = attach_got (at h.start) (h.start + h.len) (w.dec c) a n q.1 in
+          let g = part_of s h.tag h.start h.len o ex in
+          let v = w.sound c a g.octets r.0 in
+          (v.0, rw (eqb-true h.tag t q.0, r.1, v.1) at g.same)
 
   pub tagged_complete : tag_ok t ≡ true → (a : A) (r : List ℕ) → w.ok a → length (tagged_enc a) < 2 ^ 64
       → tagged_dec at t w.dec (tagged_enc a ++ r) ≡ got a (length (tagged_enc a))
@@ -67,20 +67,20 @@ module _ {A : Type 0} (at : ℕ → ℕ → ℕ) (t : ℕ) (w : Whole A) where
           let v = w.within (take m (drop h s)) q ed in
           omega (arith, le h q)
 
-      go : (x : Header) → header_of s ≡ x → tagged_of at t w.dec s x ≡ bad p → p ≤ length s
-      go (Refused q) ex e = let i : q ≡ p = cc in rw i at (header_within s q ex)
-      go (Found u h m) ex e = on h m (header_inside s u h m ex).1 (eqb u t) e
+      go : (x : HeaderRead) → header_of s ≡ x → tagged_of at t w.dec s x ≡ bad p → p ≤ length s
+      go (Err q) ex e = let i : q.place ≡ p = cc in rw i at (header_within s q.place ex)
+      go (Ok h) ex e = on h.start h.len (header_inside s h.tag h.start h.len ex).1 (eqb h.tag t) e
 
   pub tagged_inside : (s : List ℕ) (a : A) (n : ℕ) → tagged_dec at t w.dec s ≡ got a n → (0 < n) × (n ≤ length s)
   unfolding tagged_dec
   tagged_inside s a n e = go (header_of s) refl e
     where
-      go : (x : Header) → header_of s ≡ x → tagged_of at t w.dec s x ≡ got a n → (0 < n) × (n ≤ length s)
-      go (Refused q) ex e = bad_got e
-      go (Found u h m) ex e =
-          let q = tested_got (eqb u t) _ _ a n e in
-          let r = attach_got (at h) (h + m) (w.dec (take m (drop h s))) a n q.1 in
-          let i = header_inside s u h m ex in
+      go : (x : HeaderRead) → header_of s ≡ x → tagged_of at t w.dec s x ≡ got a n → (0 < n) × (n ≤ length s)
+      go (Err p) ex e = bad_got e
+      go (Ok h) ex e =
+          let q = tested_got (eqb h.tag t) _ _ a n e in
+          let r = attach_got (at h.start) (h.start + h.len) (w.dec (take h.len (drop h.start s))) a n q.1 in
+          let i = header_inside s h.tag h.start h.len ex in
           omega (arith, r.1)
 
   abbrev pub tagged_at : ((h p : ℕ) → at h p ≤ h + p) → tag_ok t ≡ true → t < 256 → Element A

@@ -3,7 +3,7 @@
 -- tree. The trees, their octets and their limits are in Tree; one with a wanted tag in TreeTagged.
 -- The laws stand here, and what is made of them; the definitions in specs/TreeRead.
 -- Assumes nothing.
-use Rattle.std.specs.Prelude.{ℕ, zero, suc, ◌+◌, ◌^◌, ◌≤◌, ◌<◌, ◌≡◌, Bool, drop}
+use Rattle.std.specs.Prelude.{ℕ, zero, suc, ◌+◌, ◌^◌, ◌≤◌, ◌<◌, ◌≡◌, Bool, drop, Ok, Err}
 use native.Mathlib.Omega.{arith}
 use Rattle.std.proofs.Math.Path.{refl, sym}
 use Rattle.std.proofs.Common.{ap, ◌∙◌}
@@ -15,8 +15,7 @@ use Rattle.octets.specs.Octets.{Octets}
 use Rattle.element.specs.FormLaws.{form_length}
 use Rattle.element.specs.Header.{header_of}
 use Rattle.element.specs.HeaderLaws.{header_inside, header_within}
-use Rattle.element.specs.declared.Header.{Header}
-use Rattle.element.specs.declared.Header.TheVariants.{Found, Refused}
+use Rattle.element.specs.Places.{HeaderRead}
 use Rattle.codec.specs.Codec.{read, Got, got, bad, Element}
 use Rattle.codec.specs.Outcome.{renamed, attach}
 use Rattle.codec.proofs.Outcome.{bad_got, got_bad, start_head, renamed_read, renamed_broke, attach_got, attach_bad}
@@ -74,9 +73,9 @@ module _ (d : ℕ) (dec : List ℕ → Got Tree) (laws : TreeLaws d dec) where
           let (l, el, ea) = renamed_read (λ l. node t (run_of l)) (all_dec dec c) a eo in
           node_run s t m c eb g l el a ea n en
 
-      go : (x : Header) → header_of s ≡ x → node_of dec s x ≡ got a n → Is s a n
-      go (Refused p) ex q = bad_got q
-      go (Found t h m) ex q = on t (h + m) h (take m (drop h s)) (part_of s t h m o ex) (constructed t) refl q
+      go : (x : HeaderRead) → header_of s ≡ x → node_of dec s x ≡ got a n → Is s a n
+      go (Err p) ex q = bad_got q
+      go (Ok h) ex q = on h.tag (h.start + h.len) h.start (take h.len (drop h.start s)) (part_of s h.tag h.start h.len o ex) (constructed h.tag) refl q
 
   node_complete : (a : Tree) (r : List ℕ) → Upto (suc d) a → length (tree_enc a) < 2 ^ 64
       → node_dec dec (tree_enc a ++ r) ≡ got a (length (tree_enc a))
@@ -105,9 +104,9 @@ module _ (d : ℕ) (dec : List ℕ → Got Tree) (laws : TreeLaws d dec) where
           let long : length c ≡ m = length-take-le m (drop h s) (simp length-drop (omega arith)) in
           omega arith
 
-      go : (x : Header) → header_of s ≡ x → node_of dec s x ≡ bad p → p ≤ length s
-      go (Refused j) ex q = let i : j ≡ p = cc in rw i at (header_within s j ex)
-      go (Found t h m) ex q = on t h m (header_inside s t h m ex).1 (constructed t) q
+      go : (x : HeaderRead) → header_of s ≡ x → node_of dec s x ≡ bad p → p ≤ length s
+      go (Err j) ex q = let i : j.place ≡ p = cc in rw i at (header_within s j.place ex)
+      go (Ok h) ex q = on h.tag h.start h.len (header_inside s h.tag h.start h.len ex).1 (constructed h.tag) q
 
   node_inside : (s : List ℕ) (a : Tree) (n : ℕ) → node_dec dec s ≡ got a n → (0 < n) × (n ≤ length s)
   unfolding node_dec
@@ -120,9 +119,9 @@ module _ (d : ℕ) (dec : List ℕ → Got Tree) (laws : TreeLaws d dec) where
           let e = (attach_got (inner h) (h + m) (renamed (λ l. node t (run_of l)) (all_dec dec (take m (drop h s)))) a n q).1 in
           omega arith
 
-      go : (x : Header) → header_of s ≡ x → node_of dec s x ≡ got a n → (0 < n) × (n ≤ length s)
-      go (Refused p) ex q = bad_got q
-      go (Found t h m) ex q = on t h m (header_inside s t h m ex) (constructed t) q
+      go : (x : HeaderRead) → header_of s ≡ x → node_of dec s x ≡ got a n → (0 < n) × (n ≤ length s)
+      go (Err p) ex q = bad_got q
+      go (Ok h) ex q = on h.tag h.start h.len (header_inside s h.tag h.start h.len ex) (constructed h.tag) q
 
   node_laws : TreeLaws (suc d) (node_dec dec)
   node_laws = record { sound = node_sound; complete = node_complete; within = node_within; inside = node_inside }

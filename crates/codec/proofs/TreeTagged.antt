@@ -3,7 +3,7 @@
 -- tree_tagged. Any free element is in TreeRead.
 -- The laws stand here, and what is made of them; the definitions in specs/TreeTagged.
 -- Assumes nothing.
-use Rattle.std.specs.Prelude.{ℕ, ◌^◌, ◌≤◌, ◌<◌, ◌≡◌, Bool, List, ◌++◌, eqb, get_or, drop}
+use Rattle.std.specs.Prelude.{ℕ, ◌^◌, ◌≤◌, ◌<◌, ◌≡◌, Bool, List, ◌++◌, eqb, get_or, drop, Ok, Err}
 use Rattle.std.proofs.Math.Path.{refl}
 use Rattle.std.proofs.Common.{sym, ap, ◌∙◌}
 use Rattle.std.proofs.Math.Bool.{true, false, cond}
@@ -13,8 +13,7 @@ use Rattle.octets.specs.Octets.{Octets}
 use Rattle.element.specs.Form.{form_of}
 use Rattle.element.specs.Header.{header_of}
 use Rattle.element.specs.HeaderLaws.{header_within, header_tag}
-use Rattle.element.specs.declared.Header.{Header}
-use Rattle.element.specs.declared.Header.TheVariants.{Found, Refused}
+use Rattle.element.specs.Places.{HeaderRead, header}
 use Rattle.codec.specs.Codec.{got, bad, Element}
 use Rattle.codec.proofs.Outcome.{bad_got, start_head, tested_got}
 use Rattle.codec.proofs.PartLaws.{form_found, small_content}
@@ -31,7 +30,7 @@ tree_first (node t x) r = refl
 
 -- and have its header at their head
 tree_found : (d : ℕ) (a : Tree) (r : List ℕ) → Upto d a → length (tree_enc a) < 2 ^ 64
-    → (h : ℕ) × (n : ℕ) × (header_of (tree_enc a ++ r) ≡ Found (tree_tag a) h n)
+    → (h : ℕ) × (n : ℕ) × (header_of (tree_enc a ++ r) ≡ Ok (header (tree_tag a) h n))
 unfolding Upto TreeOk tree_enc
 tree_found d (prim t c) r h z = (_, _, form_found t c r h.0.0 (small_content t c z))
 tree_found d (node t x) r h z = (_, _, form_found t (run_enc x) r h.0.0 (small_content t (run_enc x) z))
@@ -42,11 +41,11 @@ module _ (t d : ℕ) where
   unfolding tree_tagged_dec
   wanted s a n q = go (header_of s) refl q
     where
-      go : (x : Header) → header_of s ≡ x → wanted_of t (tree_dec d) s x ≡ got a n → (get_or s 0 0 ≡ t) × (tree_dec d s ≡ got a n)
-      go (Refused p) ex q = bad_got q
-      go (Found u h m) ex q =
-          let v = tested_got (eqb u t) (tree_dec d s) 0 a n q in
-          (header_tag s u h m ex ∙ eqb-true u t v.0, v.1)
+      go : (x : HeaderRead) → header_of s ≡ x → wanted_of t (tree_dec d) s x ≡ got a n → (get_or s 0 0 ≡ t) × (tree_dec d s ≡ got a n)
+      go (Err p) ex q = bad_got q
+      go (Ok h) ex q =
+          let v = tested_got (eqb h.tag t) (tree_dec d s) 0 a n q in
+          (header_tag s h.tag h.start h.len ex ∙ eqb-true h.tag t v.0, v.1)
 
   pub tree_tagged_sound : (s : List ℕ) (a : Tree) (n : ℕ) → Octets s → tree_tagged_dec t d s ≡ got a n
       → TreeTaggedOk t d a × (s ≡ tree_enc a ++ drop n s)
@@ -70,9 +69,9 @@ module _ (t d : ℕ) where
       on true q = (tree_laws d).within s p q
       on false q = start_head {A = Tree} s p q
 
-      go : (x : Header) → header_of s ≡ x → wanted_of t (tree_dec d) s x ≡ bad p → p ≤ length s
-      go (Refused j) ex q = let i : j ≡ p = cc in rw i at (header_within s j ex)
-      go (Found u h m) ex q = on (eqb u t) q
+      go : (x : HeaderRead) → header_of s ≡ x → wanted_of t (tree_dec d) s x ≡ bad p → p ≤ length s
+      go (Err j) ex q = let i : j.place ≡ p = cc in rw i at (header_within s j.place ex)
+      go (Ok h) ex q = on (eqb h.tag t) q
 
   pub tree_tagged_inside : (s : List ℕ) (a : Tree) (n : ℕ) → tree_tagged_dec t d s ≡ got a n → (0 < n) × (n ≤ length s)
   tree_tagged_inside s a n q = (tree_laws d).inside s a n (wanted s a n q).1

@@ -9,13 +9,15 @@
 -- Assumes nothing.
 use Prim.Native.Nat.{ℕ, zero, suc, ◌+◌, ◌-◌, ◌^◌, ◌≤◌, ◌<◌}
 use Rattle.std.proofs.Common.{arith, sym, ap, ◌∙◌, length-drop, drop_of_length-le, drop-drop}
-use Rattle.std.specs.Prelude.{◌≡◌, length, take, drop}
+use Rattle.std.specs.Prelude.{◌≡◌, length, take, drop, Ok, Err}
 use Rattle.std.proofs.Math.Path.{refl}
 use mathlib.Core.List.{List, [], ◌∷◌}
 use Rattle.std.proofs.Math.Option.{Option, some, none}
 use Rattle.std.specs.Int.{w64}
 use mir.Val as val
 use Rattle.octets.specs.LentLaws.{rest_is}
+use Rattle.element.specs.declared.Misfit.{Misfit}
+use Rattle.element.specs.Places.{misfit}
 use Rattle.codec.specs.Codec.{Read, read, broke, got, bad, Element}
 use Rattle.codec.specs.Outcome.{further}
 use Rattle.codec.specs.Many.{many_dec}
@@ -23,20 +25,17 @@ use Rattle.codec.proofs.Many.{many_got, many_bad, many_over}
 use Rattle.codec.proofs.Any.{all, all_none, all_got, all_bad}
 use Rattle.codec.specs.Views.{step_of, fit_of, later}
 use Rattle.codec.proofs.ViewLaws.{step_taken, step_bad, fit_further, later_later}
-use Rattle.codec.specs.declared.Step.{Step}
-use Rattle.codec.specs.declared.Step.TheVariants.{Taken, Bad}
-use Rattle.codec.specs.declared.Fit.{Fit}
-use Rattle.codec.specs.declared.Fit.TheVariants.{Fits, Breaks}
+use Rattle.codec.specs.Steps.{Step, Fit}
 use Rattle.codec.specs.TurnLaws.{OneMore, Telling}
 
 -- the start is no octets further on
 later_start : (x : Fit) → x ≡ later 0 x
 unfolding later
-later_start Fits = refl
-later_start (Breaks p) = ap Breaks (omega arith)
+later_start (Ok x) = refl
+later_start (Err p) = ap (λ (j : ℕ). Err (misfit j)) (omega arith)
 
 -- that they fit, or the place that is wrong
-pub fits : (A : Type 0) → Telling {A = A} fit_of (λ at k. later at) (λ k. Fits) Breaks
+pub fits : (A : Type 0) → Telling {A = A} fit_of (λ at k. later at) (λ k. Ok tt) (λ p. Err (misfit p))
 unfolding fit_of later
 fits A = record {
   start = later_start;
@@ -78,12 +77,12 @@ module _ {A : Type 0} (e : Element A) (s : List ℕ) (at : ℕ) (x : Step) (q : 
   here : step_of (e.dec (drop at s)) ≡ x
   here = rw (rest_is at s) at (sym q)
 
-  pub turn_place : at ≤ length s → (p : ℕ) → x ≡ Bad p → length s < 2 ^ 64 → val.Fits w64 (at + p)
+  pub turn_place : at ≤ length s → (p : Misfit) → x ≡ Err p → length s < 2 ^ 64 → val.Fits w64 (at + p.place)
   turn_place le p f z =
-      let v = (step_bad e (drop at s) p (here ∙ f)).1 in
+      let v = (step_bad e (drop at s) p.place (here ∙ f)).1 in
       record { fits = omega (arith, length-drop at s) }
 
-  module _ (n : ℕ) (f : x ≡ Taken n) where
+  module _ (n : ℕ) (f : x ≡ Ok n) where
     taken : (0 < n) × (at + n ≤ length s)
     taken = let v = step_taken e (drop at s) n (here ∙ f) in omega (arith, v.2, v.3, length-drop at s)
 
@@ -115,12 +114,12 @@ module _ {A R : Type 0} {of : Read (List A) → R} {past : ℕ → ℕ → R →
       stopped p j = sym (i ∙ rw j (v.stops at k p))
 
       module _ (x : Step) (q : x ≡ step_of (e.dec (take (length s - at) (drop at s)))) (m : OneMore b k) where
-        pub turn_bad : at < length s → (p : ℕ) → x ≡ Bad p → wrong (at + p) ≡ of (rest e b 0 s)
+        pub turn_bad : at < length s → (p : Misfit) → x ≡ Err p → wrong (at + p.place) ≡ of (rest e b 0 s)
         turn_bad lt p f =
-            let g = (step_bad e (drop at s) p (here e s at x q ∙ f)).0 in
-            stopped p (rest_bad e b k m (drop at s) p (simp length-drop (omega arith)) g)
+            let g = (step_bad e (drop at s) p.place (here e s at x q ∙ f)).0 in
+            stopped p.place (rest_bad e b k m (drop at s) p.place (simp length-drop (omega arith)) g)
 
-        pub turn_next : (n : ℕ) → x ≡ Taken n → Turns b e s (at + n) (k + 1)
+        pub turn_next : (n : ℕ) → x ≡ Ok n → Turns b e s (at + n) (k + 1)
         turn_next n f =
             let (a, g, pos, inside) = step_taken e (drop at s) n (here e s at x q ∙ f) in
             i ∙ rw (rest_got e b k m (drop at s) a n (omega arith) g)

@@ -17,5 +17,6 @@ pub mod Keys
 pub mod Tree
 pub mod TreeRead
 pub mod TreeTagged
+pub mod Steps
 pub mod Views
 pub mod TurnLaws

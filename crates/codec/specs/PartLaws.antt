@@ -4,7 +4,7 @@
 -- Part, part_of, form_found, form_content; small_left, small_right, small_content.
 -- The definitions stand here; the laws, and what is made of them, in proofs/PartLaws.
 -- Assumes nothing.
-use Rattle.std.specs.Prelude.{ℕ, ◌+◌, ◌^◌, ◌<◌, ◌≡◌, true, List, ◌++◌, length, drop}
+use Rattle.std.specs.Prelude.{ℕ, ◌^◌, ◌<◌, ◌≡◌, true, List, ◌++◌, length, drop}
 use Rattle.octets.specs.Octets.{Octets}
 use Rattle.element.specs.Tag.{tag_ok}
 use Rattle.element.specs.Form.{form_of}

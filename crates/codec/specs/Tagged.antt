@@ -4,12 +4,11 @@
 -- refuses the element's own place).
 -- The definitions stand here; the laws, and what is made of them, in proofs/Tagged.
 -- Assumes nothing.
-use Rattle.std.specs.Prelude.{ℕ, ◌+◌, List, eqb, take}
+use Rattle.std.specs.Prelude.{ℕ, ◌+◌, List, eqb, take, Ok, Err}
 use Rattle.std.proofs.Math.Bool.{cond}
 use Rattle.std.proofs.Math.ListN.{drop}
 use Rattle.element.specs.Header.{header_of}
-use Rattle.element.specs.declared.Header.{Header}
-use Rattle.element.specs.declared.Header.TheVariants.{Found, Refused}
+use Rattle.element.specs.Places.{HeaderRead}
 use Rattle.codec.specs.Codec.{Read, Got, bad}
 use Rattle.codec.specs.Outcome.{attach}
 
@@ -21,9 +20,9 @@ abbrev pub own : ℕ → ℕ → ℕ
 own h p = 0
 
 -- by the header: the tag is the one that is wanted, and the content is read
-abbrev pub tagged_of : {A : Type 0} → (ℕ → ℕ → ℕ) → ℕ → (List ℕ → Read A) → List ℕ → Header → Got A
-tagged_of at t d s (Found u h n) = cond (eqb u t) (attach (at h) (h + n) (d (take n (drop h s)))) (bad 0)
-tagged_of at t d s (Refused p) = bad p
+abbrev pub tagged_of : {A : Type 0} → (ℕ → ℕ → ℕ) → ℕ → (List ℕ → Read A) → List ℕ → HeaderRead → Got A
+tagged_of at t d s (Ok h) = cond (eqb h.tag t) (attach (at h.start) (h.start + h.len) (d (take h.len (drop h.start s)))) (bad 0)
+tagged_of at t d s (Err p) = bad p.place
 
 unfoldable pub tagged_dec : {A : Type 0} → (ℕ → ℕ → ℕ) → ℕ → (List ℕ → Read A) → List ℕ → Got A
 tagged_dec at t d s = tagged_of at t d s (header_of s)

@@ -3,14 +3,13 @@
 -- tree. The trees, their octets and their limits are in Tree; one with a wanted tag in TreeTagged.
 -- The definitions stand here; the laws, and what is made of them, in proofs/TreeRead.
 -- Assumes nothing.
-use Rattle.std.specs.Prelude.{ℕ, zero, suc, ◌+◌, ◌^◌, ◌≤◌, ◌<◌, ◌≡◌, drop}
+use Rattle.std.specs.Prelude.{ℕ, zero, suc, ◌+◌, ◌^◌, ◌≤◌, ◌<◌, ◌≡◌, drop, Ok, Err}
 use Rattle.std.proofs.Math.Bool.{cond}
 use mathlib.Core.List.{List, ◌++◌}
 use Rattle.std.proofs.Math.ListN.{length, take}
 use Rattle.octets.specs.Octets.{Octets}
 use Rattle.element.specs.Header.{header_of}
-use Rattle.element.specs.declared.Header.{Header}
-use Rattle.element.specs.declared.Header.TheVariants.{Found, Refused}
+use Rattle.element.specs.Places.{HeaderRead}
 use Rattle.codec.specs.Codec.{Got, got, bad}
 use Rattle.codec.specs.Outcome.{renamed, attach}
 use Rattle.codec.specs.Tagged.{inner}
@@ -18,12 +17,12 @@ use Rattle.codec.specs.Many.{all_dec}
 use Rattle.codec.specs.Tree.{Tree, prim, node, constructed, tree_enc, Upto, run_of}
 
 -- by the header: a run where the constructed bit is set, else octets that are not examined
-abbrev pub node_of : (List ℕ → Got Tree) → List ℕ → Header → Got Tree
-node_of d s (Found t h n) =
-    cond (constructed t)
-    (attach (inner h) (h + n) (renamed (λ l. node t (run_of l)) (all_dec d (take n (drop h s)))))
-    (got (prim t (take n (drop h s))) (h + n))
-node_of d s (Refused p) = bad p
+abbrev pub node_of : (List ℕ → Got Tree) → List ℕ → HeaderRead → Got Tree
+node_of d s (Ok h) =
+    cond (constructed h.tag)
+    (attach (inner h.start) (h.start + h.len) (renamed (λ l. node h.tag (run_of l)) (all_dec d (take h.len (drop h.start s)))))
+    (got (prim h.tag (take h.len (drop h.start s))) (h.start + h.len))
+node_of d s (Err p) = bad p.place
 
 unfoldable pub node_dec : (List ℕ → Got Tree) → List ℕ → Got Tree
 node_dec d s = node_of d s (header_of s)

@@ -1,9 +1,10 @@
 -- Settled contracts of the room's cache.
 -- One theorem for each public function, CRATE_FUNCTION_settled, crate by crate:
--- cache_place, cache_places, cache_file, cache_ask, cache_line (_buffer of the line, _cache of the cache).
+-- cache_rules, cache_place, cache_places, cache_file, cache_ask, cache_line (_buffer of the line, _cache of the cache).
 -- Of a function that writes, CRATE_FUNCTION_buffer says the same of the buffer. Of a returned part, its octets are said.
 -- What it is to be settled is in Settled; the functions for C are in SettledC. Assumes nothing.
 use Rattle.contracts.specs.Settled.{Settled, settled, Settles, settles}
+use Rattle.cache_rules.proofs.Unfiled.number.Reads as cache_rules_number
 use Rattle.cache_place.proofs.place_fits.Reads as cache_place_place_fits
 use Rattle.cache_place.proofs.slip_fits.Reads as cache_place_slip_fits
 use Rattle.cache_place.proofs.slip_at.Reads as cache_place_slip_at
@@ -20,6 +21,10 @@ use Rattle.cache_file.proofs.file.Reads as cache_file_file
 use Rattle.cache_ask.proofs.find.Reads as cache_ask_find
 use Rattle.cache_ask.proofs.ask.Reads as cache_ask_ask
 use Rattle.cache_line.proofs.answer_for.Reads as cache_line_answer_for
+
+-- ── crate cache_rules ──
+pub cache_rules_number_settled : Settled cache_rules_number.Asked cache_rules_number.Learnt
+cache_rules_number_settled = settled _ _ _ (λ k a. tt) (λ k a z e p. p)
 
 -- ── crate cache_place ──
 pub cache_place_place_fits_settled : Settled cache_place_place_fits.Asked cache_place_place_fits.Learnt

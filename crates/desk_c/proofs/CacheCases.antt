@@ -14,5 +14,5 @@ use Rattle.desk_c.specs.FindLaws.{find_inside}
 pub span_placed : (f : Sought) (i : ℕ) → f ≡ found.At i → Placed f → i < 64
 span_placed f i e h = h i e
 
-pub find_placed : (clock : Clock) (c s : List ℕ) (f : Sought) → f ≡ ask_found clock c s → Placed f
+pub find_placed : (clock : Clock) (c s : List ℕ) (f : Sought) → f ≡ ask_found clock c s → (i : ℕ) → f ≡ found.At i → i < 64
 find_placed clock c s f e i q = find_inside clock c s i (sym e ∙ q)

@@ -6,7 +6,7 @@
 -- Assumes nothing.
 use Rattle.std.specs.Prelude.{ℕ, ◌*◌, ◌<◌, ◌≡◌, List, [], length, get_or}
 use Rattle.freshness.specs.declared.Clock.{Clock}
-use Rattle.read_response.specs.declared.Span.{Span}
+use Rattle.element.specs.declared.Span.{Span}
 use Rattle.show.specs.Parts.{empty_span}
 use Rattle.cache_rules.specs.Place.{slip_in}
 use Rattle.cache_places.specs.Evenly.{evenly}

@@ -3,7 +3,7 @@
 -- parts_none, certificates_nothing; entry_octets, entry_end, entry_number_lem, entry_nothing, entry_inside.
 -- The definitions are in Places; the other parts are in PlacesLaws.
 -- Assumes nothing.
-use Rattle.std.specs.Prelude.{ℕ, ◌+◌, ◌≤◌, ◌<◌, ◌≡◌, Bool, List, take, drop}
+use Rattle.std.specs.Prelude.{ℕ, ◌+◌, ◌≤◌, ◌<◌, ◌≡◌, Bool, List, take, drop, Ok, Err}
 use Rattle.std.proofs.Common.{arith, ltb-true, ltb-false}
 use Rattle.std.proofs.Math.Path.{refl}
 use Rattle.std.proofs.Math.Bool.{true, false}
@@ -19,8 +19,8 @@ use Rattle.read_response.specs.Parts.{judged_of}
 use Rattle.read_response.specs.Refusals.{refusal_of}
 use Rattle.read_response.proofs.JudgedLaws.{judged_basic}
 use Rattle.read_response.specs.declared.Parts.{Parts}
-use Rattle.read_response.specs.declared.Judged.{Judged}
-use Rattle.read_response.specs.declared.Judged.TheVariants as judged
+use Rattle.read_response.specs.Judged.{Judged}
+use Rattle.read_response.specs.declared.Unread.TheVariants as unread
 use Rattle.show.specs.Parts.{empty_span, no_parts, shown_parts}
 use Rattle.show.specs.Shown.{octets_in, entry_of}
 use Rattle.show.proofs.EntryLaws.{entry_refused, entry_shown, entry_past, entry_stands}
@@ -35,11 +35,11 @@ module _ (s : List ℕ) where
   parts_none n = go (judged_of s) n
     where
       go : (j : Judged) → ((refusal_of j).number ≡ 0 → ⊥) → shown_parts j ≡ no_parts
-      go (judged.Basic p) n = absurd (n refl)
-      go judged.TooLong n = refl
-      go (judged.Unfit p) n = refl
-      go (judged.Failed c) n = refl
-      go judged.OtherType n = refl
+      go (Ok p) n = absurd (n refl)
+      go (Err unread.TooLong) n = refl
+      go (Err (unread.Unfit p)) n = refl
+      go (Err (unread.Failed c)) n = refl
+      go (Err unread.OtherType) n = refl
 
   -- and nothing lies behind two headers of no octets
   pub certificates_nothing : ((refusal_of (judged_of s)).number ≡ 0 → ⊥) → certificates_in s (judged_of s) ≡ empty_span
@@ -77,11 +77,11 @@ module _ (s : List ℕ) (k : ℕ) where
     entry_end h = rw (entry_past s b le e k h)
 
   -- a response that is refused has none
-  refused_number : (j : Judged) → judged_of s ≡ j → ((t : Parts) → j ≡ judged.Basic t → ⊥) → entry_number (entry_of s k) ≡ (refusal_of j).number
+  refused_number : (j : Judged) → judged_of s ≡ j → ((t : Parts) → j ≡ Ok t → ⊥) → entry_number (entry_of s k) ≡ (refusal_of j).number
   unfolding entry_number
   refused_number j e n = rw (entry_refused s k j e n)
 
-  refused_empty : (j : Judged) → judged_of s ≡ j → ((t : Parts) → j ≡ judged.Basic t → ⊥) → entry_span (entry_of s k) ≡ empty_span
+  refused_empty : (j : Judged) → judged_of s ≡ j → ((t : Parts) → j ≡ Ok t → ⊥) → entry_span (entry_of s k) ≡ empty_span
   unfolding entry_span
   refused_empty j e n = rw (entry_refused s k j e n)
 
@@ -91,11 +91,11 @@ module _ (s : List ℕ) (k : ℕ) where
   entry_number_lem = go (judged_of s) refl
     where
       go : (j : Judged) → judged_of s ≡ j → entry_number (entry_of s k) ≡ (refusal_of j).number
-      go (judged.Basic t) e = let r = judged_basic s t e in basic_number r.value r.small r.read
-      go judged.TooLong e = refused_number judged.TooLong e (λ t i. never (cc i))
-      go (judged.Unfit p) e = refused_number (judged.Unfit p) e (λ t i. never (cc i))
-      go (judged.Failed n) e = refused_number (judged.Failed n) e (λ t i. never (cc i))
-      go judged.OtherType e = refused_number judged.OtherType e (λ t i. never (cc i))
+      go (Ok t) e = let r = judged_basic s t e in basic_number r.value r.small r.read
+      go (Err unread.TooLong) e = refused_number (Err unread.TooLong) e (λ t i. never (cc i))
+      go (Err (unread.Unfit p)) e = refused_number (Err (unread.Unfit p)) e (λ t i. never (cc i))
+      go (Err (unread.Failed n)) e = refused_number (Err (unread.Failed n)) e (λ t i. never (cc i))
+      go (Err unread.OtherType) e = refused_number (Err unread.OtherType) e (λ t i. never (cc i))
 
   -- then the part is empty
   pub entry_nothing : ((refusal_of (judged_of s)).number ≡ 0 → ⊥) → entry_span (entry_of s k) ≡ empty_span
@@ -103,11 +103,11 @@ module _ (s : List ℕ) (k : ℕ) where
   entry_nothing z = go (judged_of s) refl z
     where
       go : (j : Judged) → judged_of s ≡ j → ((refusal_of j).number ≡ 0 → ⊥) → entry_span (entry_of s k) ≡ empty_span
-      go (judged.Basic t) e z = absurd (z refl)
-      go judged.TooLong e z = refused_empty judged.TooLong e (λ t i. never (cc i))
-      go (judged.Unfit p) e z = refused_empty (judged.Unfit p) e (λ t i. never (cc i))
-      go (judged.Failed n) e z = refused_empty (judged.Failed n) e (λ t i. never (cc i))
-      go judged.OtherType e z = refused_empty judged.OtherType e (λ t i. never (cc i))
+      go (Ok t) e z = absurd (z refl)
+      go (Err unread.TooLong) e z = refused_empty (Err unread.TooLong) e (λ t i. never (cc i))
+      go (Err (unread.Unfit p)) e z = refused_empty (Err (unread.Unfit p)) e (λ t i. never (cc i))
+      go (Err (unread.Failed n)) e z = refused_empty (Err (unread.Failed n)) e (λ t i. never (cc i))
+      go (Err unread.OtherType) e z = refused_empty (Err unread.OtherType) e (λ t i. never (cc i))
 
   -- and it lies inside the response in every case
   pub entry_inside : Octets s → (entry_span (entry_of s k)).start + (entry_span (entry_of s k)).len ≤ length s
@@ -118,8 +118,8 @@ module _ (s : List ℕ) (k : ℕ) where
       nothing i = rw i (omega arith)
 
       go : (j : Judged) → judged_of s ≡ j → (entry_span (entry_of s k)).start + (entry_span (entry_of s k)).len ≤ length s
-      go (judged.Basic t) e = let r = judged_basic s t e in basic_inside r.value r.small r.read o
-      go judged.TooLong e = nothing (refused_empty judged.TooLong e (λ t i. never (cc i)))
-      go (judged.Unfit p) e = nothing (refused_empty (judged.Unfit p) e (λ t i. never (cc i)))
-      go (judged.Failed n) e = nothing (refused_empty (judged.Failed n) e (λ t i. never (cc i)))
-      go judged.OtherType e = nothing (refused_empty judged.OtherType e (λ t i. never (cc i)))
+      go (Ok t) e = let r = judged_basic s t e in basic_inside r.value r.small r.read o
+      go (Err unread.TooLong) e = nothing (refused_empty (Err unread.TooLong) e (λ t i. never (cc i)))
+      go (Err (unread.Unfit p)) e = nothing (refused_empty (Err (unread.Unfit p)) e (λ t i. never (cc i)))
+      go (Err (unread.Failed n)) e = nothing (refused_empty (Err (unread.Failed n)) e (λ t i. never (cc i)))
+      go (Err unread.OtherType) e = nothing (refused_empty (Err unread.OtherType) e (λ t i. never (cc i)))

@@ -3,7 +3,8 @@
 -- Assumes nothing.
 use Rattle.std.specs.Prelude.{◌≡◌, refl, [], ◌∷◌}
 use Rattle.layout.proofs.Opened.{opened}
-use Rattle.read_response.specs.Parts.{span, parts_from, judged_as, judged_of}
+use Rattle.element.specs.Places.{span}
+use Rattle.read_response.specs.Parts.{parts_from, judged_as, judged_of}
 use Rattle.read_response.proofs.Examples.{full}
 use Rattle.show.specs.Parts.{empty_span, shown_parts}
 use Rattle.desk_c.specs.Places.{algorithm_in, behind_header, last_before, held_in, certificates_in}

@@ -3,7 +3,7 @@
 -- HeldHere, find_held, find_inside, find_places, find_wide, find_room, find_here; find_number, find_short.
 -- The definition is in Found of crate cache_ask. What is told of it is in ToldLaws, what C is told in CachesLaws.
 -- Assumes nothing.
-use Rattle.std.specs.Prelude.{ℕ, ◌+◌, ◌*◌, ◌≤◌, ◌<◌, Bool, get_or}
+use Rattle.std.specs.Prelude.{ℕ, ◌+◌, ◌*◌, ◌≤◌, ◌<◌, Bool, get_or, Some, Ok, Err}
 use Rattle.std.proofs.Math.Nat.{min-le_right}
 use Rattle.std.proofs.Common.{arith, ◌∙◌}
 use Rattle.std.proofs.Math.Path.{◌≡◌, refl, ap}
@@ -13,11 +13,9 @@ use Rattle.std.proofs.Math.Dec.{eqb, leb}
 use Rattle.std.proofs.Math.ListN.{length, length-take}
 use borrow.Author.Tests.{leb-false, eqb-false, ne_eqb}
 use Rattle.freshness.specs.declared.Clock.{Clock}
-use Rattle.freshness.specs.declared.Freshness.{Freshness}
-use Rattle.freshness.specs.declared.Freshness.TheVariants.{Fresh, Endless, Reversed, Early, Late}
+use Rattle.freshness.specs.declared.Missed.TheVariants.{Endless, Reversed, Early, Late}
 use Rattle.freshness.specs.Clock.{clock_ok}
-use Rattle.freshness.specs.declared.Next.TheVariants.{At as NextAt}
-use Rattle.freshness.specs.Fresh.{fresh_of, fresh_refusal}
+use Rattle.freshness.specs.Fresh.{Freshness, fresh_of, fresh_refusal}
 use Rattle.cache_room.specs.Room.{held_at}
 use Rattle.cache_room.proofs.PartsLaws.{parts_wide, wide_at}
 use Rattle.cache_rules.specs.Place.{width, places, slip_size, kind_at, slip_in, card_at, says_at}
@@ -39,11 +37,11 @@ pub record HeldHere (k : Clock) (c s : List ℕ) (i : ℕ) : Type 0 where
   pub inside : i < places
 
 missed_range : (f : Freshness) → fresh_refusal f < 256
-missed_range Fresh = omega arith
-missed_range Endless = omega arith
-missed_range (Reversed n) = omega arith
-missed_range (Early n) = omega arith
-missed_range (Late n) = omega arith
+missed_range (Ok x) = omega arith
+missed_range (Err Endless) = omega arith
+missed_range (Err (Reversed n)) = omega arith
+missed_range (Err (Early n)) = omega arith
+missed_range (Err (Late n)) = omega arith
 
 module _ (clock : Clock) (c s : List ℕ) where
   -- ── a place ──
@@ -109,7 +107,7 @@ module _ (clock : Clock) (c s : List ℕ) where
 
   misses_range : (p : List ℕ) → misses_at clock p < 256
   unfolding misses_at
-  misses_range p = missed_range (fresh_of (this_at p) (NextAt (next_at p)) clock.now clock.tolerance)
+  misses_range p = missed_range (fresh_of (this_at p) (Some (next_at p)) clock.now clock.tolerance)
 
   in_number : (i n : ℕ) → found_in clock s i ≡ Refused n → (n ≡ 0 → ⊥) × (n < 256)
   unfolding found_in

@@ -16,7 +16,7 @@ use Rattle.codec.proofs.PartLaws.{form_found, small_content}
 use Rattle.layout.proofs.ElementKinds.{tag_30, tag_a0}
 use Rattle.read_response.specs.Stands.{Stands}
 use Rattle.read_response.proofs.Stands.{part_stands}
-use Rattle.read_response.specs.declared.Span.{Span}
+use Rattle.element.specs.declared.Span.{Span}
 use Rattle.show.specs.Parts.{empty_span}
 use Rattle.show.specs.Shown.{octets_in}
 use Rattle.desk_c.specs.Places.{behind_header, last_before, held_in}

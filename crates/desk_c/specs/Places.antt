@@ -5,14 +5,11 @@
 -- past the last entry. The parts are in crate show (Parts). That the octets there are the forms of the reading's parts is in
 -- PlacesLaws, of the signed part and the signature in PartsLaws of crate show.
 -- Assumes nothing.
-use Rattle.std.specs.Prelude.{ℕ, ◌+◌, ◌-◌, cond, List, eqb, length, drop}
+use Rattle.std.specs.Prelude.{ℕ, ◌+◌, ◌-◌, cond, List, eqb, length, drop, Option, Some, None, Ok, Err}
 use Rattle.element.specs.Header.{header_of}
-use Rattle.element.specs.declared.Header.{Header}
-use Rattle.element.specs.declared.Header.TheVariants as header
-use Rattle.answer.specs.declared.Place.{Place}
-use Rattle.answer.specs.declared.Place.TheVariants as place
-use Rattle.read_response.specs.declared.Span.{Span}
-use Rattle.read_response.specs.declared.Judged.{Judged}
+use Rattle.element.specs.Places.{HeaderRead}
+use Rattle.element.specs.declared.Span.{Span}
+use Rattle.read_response.specs.Judged.{Judged}
 use Rattle.show.specs.Parts.{empty_span, shown_parts}
 use Rattle.show.specs.Shown.{octets_in}
 use Rattle.show.specs.declared.Entry.{Entry}
@@ -31,9 +28,9 @@ abbrev pub signature_span : Judged → Span
 signature_span j = (shown_parts j).signature
 
 -- how many octets a header takes, none where there is no header
-abbrev pub header_size : Header → ℕ
-header_size (header.Found t h n) = h
-header_size (header.Refused p) = 0
+abbrev pub header_size : HeaderRead → ℕ
+header_size (Ok h) = h.start
+header_size (Err p) = 0
 
 -- what stands behind the header at the head of a list
 unfoldable pub behind_header : List ℕ → List ℕ
@@ -64,6 +61,6 @@ entry_span End = empty_span
 entry_span (Refused number status place) = empty_span
 
 -- a place, written over a number; without one the number stays
-abbrev pub place_over : Place → ℕ → ℕ
-place_over (place.At p) n = p
-place_over place.Absent n = n
+abbrev pub place_over : Option ℕ → ℕ → ℕ
+place_over (Some p) n = p
+place_over None n = n

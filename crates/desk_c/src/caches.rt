@@ -7,16 +7,16 @@ ghost use Rattle.desk_c.specs.Caches.{clock_at, Placed, found_number, slip_span,
 
 use cache_ask::Sought;
 use cache_rules::Filed;
+use element::Span;
 use freshness::Clock;
-use read_response::Span;
 
 // The number of a filing's refusal, 0 where there is none.
 fn filed_number(filed: Filed) -> usize
     ensures { result ≡ filed_number filed }
 {
     match filed {
-        Filed::Count(_) => 0,
-        Filed::Refused(number) => number as usize,
+        Ok(_) => 0,
+        Err(unfiled) => unfiled.number() as usize,
     }
 }
 
@@ -24,10 +24,7 @@ fn filed_number(filed: Filed) -> usize
 fn filed_places(filed: Filed) -> usize
     ensures { result ≡ filed_count filed }
 {
-    match filed {
-        Filed::Count(n) => n,
-        Filed::Refused(_) => 0,
-    }
+    filed.unwrap_or(0)
 }
 
 // Files a slip in the cache: 0 and how many places are then filled, or 19, 1, 17 or 20, no place counted
@@ -53,6 +50,7 @@ pub fn desk_cache_file(
 }
 
 // The number of what is found of a card.
+#[tactic(auto, unfolding(crate::specs::Caches::found_number))]
 fn found_number(found: Sought) -> usize
     ensures { result ≡ found_number found }
 {
@@ -64,6 +62,7 @@ fn found_number(found: Sought) -> usize
 }
 
 // Where the slip of a place is.
+#[tactic(auto, unfolding(crate::specs::Caches::slip_span))]
 fn slip_span(cache: &[u8], place: usize) -> Span
     requires { place < 64 }
     ensures { result ≡ slip_span cache.now place }
@@ -77,19 +76,20 @@ fn slip_span(cache: &[u8], place: usize) -> Span
 }
 
 // Where the slip that is found is.
+#[tactic(auto, using(crate::proofs::CacheCases::span_placed), unfolding(crate::specs::Caches::found_span))]
 fn found_span(cache: &[u8], found: Sought) -> Span
     requires { Placed found }
     ensures { result ≡ found_span cache.now found }
 {
     match found {
         Sought::At(place) => slip_span(cache, place),
-        Sought::NotHeld => Span { start: 0, len: 0 },
-        Sought::Refused(_) => Span { start: 0, len: 0 },
+        Sought::NotHeld | Sought::Refused(_) => Span { start: 0, len: 0 },
     }
 }
 
 // Asks the cache for a card of 61 octets: 0 and where its slip is; or 19, 1, 15 or 16, or 256 where no
 // place has the card, and an empty part.
+#[tactic(auto, using(crate::proofs::CacheCases::find_placed))]
 pub fn desk_cache_ask(
     cache: &[u8],
     card: &[u8],

@@ -11,6 +11,7 @@ use fields::Output;
 
 // Writes the slip of the answer to a question of 353 octets: its length, or 0 where the buffer is too
 // short. Reading that slip gives back the answer, without its place.
+#[tactic(auto, using(crate::proofs::PaperCases::check_read))]
 pub fn desk_check(question: &[u8], response: &[u8], slip: &mut [u8]) -> usize
     ensures value { result ≡ put_size slip.old (slip_of (asked question.now response.now)) }
     ensures slip_after { slip.new ≡ put_in slip.old 0 (slip_of (asked question.now response.now)) }
@@ -20,20 +21,18 @@ pub fn desk_check(question: &[u8], response: &[u8], slip: &mut [u8]) -> usize
 }
 
 // Whether octets are a slip: 0, or 17 where they break the slip rules.
+#[tactic(auto, unfolding(crate::specs::Papers::slip_number))]
 pub fn desk_slip(slip: &[u8]) -> usize
     ensures { result ≡ slip_number (read_of 20 slip.now).verdict }
 {
-    let answer = slip_read::read_slip(slip);
-    let verdict = answer.verdict;
-    match verdict {
-        Verdict::Good { .. } => 0,
-        Verdict::Revoked { .. } => 0,
-        Verdict::Unknown { .. } => 0,
-        Verdict::Refused { number, .. } => { if number == 17 { 17 } else { 0 } }
+    match slip_read::read_slip(slip).verdict {
+        Verdict::Refused { number: 17, .. } => 17,
+        _ => 0,
     }
 }
 
 // How many octets a writer wrote.
+#[tactic(auto, unfolding(crate::specs::Papers::size_or0))]
 fn size_or_0(output: Output) -> usize
     ensures { result ≡ size_or0 output }
 {
@@ -45,6 +44,7 @@ fn size_or_0(output: Output) -> usize
 
 // Writes the request for a card of 61 octets: its length, or 0 where the card does not fit or the
 // buffer is too short.
+#[tactic(auto, unfolding(crate::specs::Papers::request_size, crate::specs::Papers::request_in))]
 pub fn desk_request(card: &[u8], out: &mut [u8]) -> usize
     ensures value { result ≡ request_size card.now (length out.old) }
     ensures out_after { out.new ≡ request_in card.now out.old }
@@ -52,7 +52,5 @@ pub fn desk_request(card: &[u8], out: &mut [u8]) -> usize
     if card.len() != 61 {
         return 0;
     }
-    let asked = fields::card_in(card);
-    let output = request::write_request(asked, out);
-    size_or_0(output)
+    size_or_0(request::write_request(fields::card_in(card), out))
 }

@@ -5,9 +5,8 @@ ghost use Rattle.read_response.specs.Refusals.{refusal_of};
 ghost use Rattle.show.specs.Shown.{entry_of};
 ghost use Rattle.desk_c.specs.Places.{signed_span, algorithm_in, signature_span, behind_header, held_in, certificates_in, entry_number, entry_span, place_over};
 
-use answer::Place;
-use element::Header;
-use read_response::{Judged, Span};
+use element::Span;
+use read_response::{Parts, Unread};
 use show::Entry;
 
 // The refusal of a response before any question is asked: 0 or 2 to 5, and the status that goes with 4.
@@ -26,23 +25,21 @@ pub fn desk_misfit(response: &[u8], place: &mut usize) -> usize
     ensures place_after { place.new ≡ place_over (refusal_of (judged_of response.now)).place place.old }
 {
     let why = read_response::refuse(response);
-    let misfit = why.place;
-    if let Place::At(p) = misfit {
+    if let Some(p) = why.place {
         *place = p;
     }
     why.number as usize
 }
 
 // Tells where a part is, and the refusal of what the response is, 0 where there is none.
-fn tell(judged: Judged, span: Span, from: &mut usize, len: &mut usize) -> usize
+fn tell(judged: Result<Parts, Unread>, span: Span, from: &mut usize, len: &mut usize) -> usize
     ensures value { result ≡ (refusal_of judged).number }
     ensures from_after { from.new ≡ span.start }
     ensures len_after { len.new ≡ span.len }
 {
     *from = span.start;
     *len = span.len;
-    let said = read_response::refusal_of(judged);
-    said.number as usize
+    read_response::refusal_of(judged).number as usize
 }
 
 // The signed part, header included: 0 and where it is, or the refusal's number and an empty part.
@@ -79,24 +76,24 @@ pub fn desk_signature(response: &[u8], from: &mut usize, len: &mut usize) -> usi
 }
 
 // What stands behind the header at the head of s; all of s where there is no header.
+#[tactic(auto, using(crate::proofs::ShownCases::behind_cases))]
 fn behind<'a>(s: &'a [u8]) -> &'a [u8]
     ensures { result.now ≡ behind_header s.now }
 {
-    let header = element::read_header(s);
-    match header {
-        Header::Found { start, .. } => &s[start..],
-        Header::Refused(_) => s,
+    match element::read_header(s) {
+        Ok(header) => &s[header.start..],
+        Err(_) => s,
     }
 }
 
 // Of an element that holds one other, and of that one what it holds: where it is.
+#[tactic(auto, using(crate::proofs::ShownCases::held_cases))]
 fn held_in(s: &[u8], at: Span) -> Span
     requires { at.start + at.len ≤ length s.now }
     ensures { result ≡ held_in s.now at }
 {
-    let start = at.start;
-    let end = start + at.len;
-    let list = behind(&s[start..end]);
+    let end = at.start + at.len;
+    let list = behind(&s[at.start..end]);
     let held = behind(list);
     let len = held.len();
     if len == 0 {
@@ -110,6 +107,7 @@ fn held_in(s: &[u8], at: Span) -> Span
 
 // The certificates one after the other, without what is around them: 0 and where they are, an empty part
 // where there are none; or the refusal's number and an empty part.
+#[tactic(auto, using(crate::proofs::ShownCases::certificates_lent))]
 pub fn desk_certificates(response: &[u8], from: &mut usize, len: &mut usize) -> usize
     ensures value { result ≡ (refusal_of (judged_of response.now)).number }
     ensures from_after { from.new ≡ (certificates_in response.now (judged_of response.now)).start }
@@ -122,23 +120,23 @@ pub fn desk_certificates(response: &[u8], from: &mut usize, len: &mut usize) -> 
 }
 
 // Where an entry is.
+#[tactic(auto, unfolding(crate::specs::Places::entry_span))]
 fn entry_span(entry: Entry) -> Span
     ensures { result ≡ entry_span entry }
 {
     match entry {
         Entry::At { start, len } => Span { start, len },
-        Entry::End => Span { start: 0, len: 0 },
-        Entry::Refused { .. } => Span { start: 0, len: 0 },
+        Entry::End | Entry::Refused { .. } => Span { start: 0, len: 0 },
     }
 }
 
 // The refusal of an entry, 0 where there is none.
+#[tactic(auto, unfolding(crate::specs::Places::entry_number))]
 fn entry_number(entry: Entry) -> u8
     ensures { result ≡ entry_number entry }
 {
     match entry {
-        Entry::At { .. } => 0,
-        Entry::End => 0,
+        Entry::At { .. } | Entry::End => 0,
         Entry::Refused { number, .. } => number,
     }
 }

@@ -1,5 +1,6 @@
 -- What the code knows at each return, and the contract there.
--- form_long, form_kind, form_name, form_fill; question_parts; asked_long, asked_sum, asked_end, asked_checked, asked_out, asked_form.
+-- form_long, form_kind, form_name, form_fill, in form_cases; question_parts; asked_long, asked_sum, asked_end, asked_checked, in
+-- asked_cases; asked_out, asked_form.
 -- Assumes nothing.
 use Prim.Native.Nat.{ℕ, ◌+◌, ◌-◌, ◌≤◌, ◌<◌}
 use native.Mathlib.Omega.{arith}
@@ -88,3 +89,7 @@ module _ (s r : List ℕ) (z : Bool) (e : z ≡ question_ok 20 s) where
 
   pub asked_form : not z ≡ false → question_ok 20 s ≡ true
   asked_form h = sym e ∙ not-false z h
+
+pub ruleset form_cases = (form_long, form_kind, form_name, form_fill)
+
+pub ruleset asked_cases = (asked_long, asked_sum, asked_end, asked_checked)

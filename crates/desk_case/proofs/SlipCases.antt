@@ -1,5 +1,5 @@
 -- What the code knows at each return of the slip's writer, and the contract there.
--- slip_buffer, slip_written, slip_none.
+-- slip_buffer, slip_written, slip_none, in slip_cases.
 -- Assumes nothing.
 use Prim.Native.Nat.{ℕ}
 use native.Mathlib.Omega.{arith}
@@ -54,3 +54,5 @@ module _ (q r : List ℕ) (a : Answer) (e : a ≡ asked q r) where
 
     pub slip_none : (m : ℕ) → w ≡ Refused m → 0 ≡ put_size out (slip_of (asked q r))
     slip_none m i = count_none m (length out) (length (slip_of (asked q r))) (sym i ∙ same)
+
+pub ruleset slip_cases = (slip_buffer, slip_written, slip_none)

@@ -7,24 +7,19 @@ use rules::Question;
 
 // Whether a question has its exact length, kind 51 hex, a Name of at most 256 octets, and zeros after
 // the Name.
+#[tactic(auto, using(crate::proofs::Cases::form_cases))]
 fn form_fits(question: &[u8]) -> bool
     ensures { result ≡ question_ok 20 question.now }
 {
-    if question.len() != 353 {
-        return false;
-    }
-    if question[0] != 0x51 {
+    if question.len() != 353 || question[0] != 0x51 {
         return false;
     }
     let size = fields::value_at(question, 95, 2) as usize;
-    if 256 < size {
-        return false;
-    }
-    let end = 97 + size;
-    answer::all_zero(&question[end..])
+    size <= 256 && answer::all_zero(&question[97 + size..])
 }
 
 // The question of octets with their exact length, but for the signer's Name.
+#[tactic(auto, using(crate::proofs::Cases::question_parts))]
 fn question_in(question: &[u8]) -> Question
     requires { length question.now ≡ 353 }
     ensures { result ≡ question_in 20 question.now }
@@ -45,6 +40,7 @@ fn question_in(question: &[u8]) -> Question
 }
 
 // What a response says for a question that keeps its form.
+#[tactic(auto, using(crate::proofs::Cases::asked_cases))]
 fn ask_kept(question: &[u8], response: &[u8]) -> Answer
     requires { question_ok 20 question.now ≡ true }
     ensures { result ≡ asked question.now response.now }
@@ -56,6 +52,7 @@ fn ask_kept(question: &[u8], response: &[u8]) -> Answer
 }
 
 // What a response says for a question, both as octets.
+#[tactic(auto, using(crate::proofs::Cases::asked_out, crate::proofs::Cases::asked_form))]
 pub fn ask(question: &[u8], response: &[u8]) -> Answer
     ensures { result ≡ asked question.now response.now }
 {

@@ -9,13 +9,13 @@ use fields::Output;
 
 // Writes the slip of the answer to a question at the start of a buffer: how many octets, or 0 where
 // there is no room for them.
+#[tactic(auto, using(crate::proofs::SlipCases::slip_cases))]
 pub fn slip_for(question: &[u8], response: &[u8], out: &mut [u8]) -> usize
     ensures value { result ≡ put_size out.old (slip_of (asked question.now response.now)) }
     ensures out_after { out.new ≡ put_in out.old 0 (slip_of (asked question.now response.now)) }
 {
     let answer = questions::ask(question, response);
-    let output = slip_write::write_unjudged(answer, out);
-    match output {
+    match slip_write::write_unjudged(answer, out) {
         Output::Octets(n) => n,
         Output::Refused(_) => 0,
     }

@@ -1,5 +1,5 @@
 -- What the code knows at each return of `keep`, and the contract there.
--- Keeps; part_counted; keeps_past, keeps_part, keeps_whole.
+-- past_value, past_after; part_counted, part_value, part_after; whole_value, whole_after; all in keep_cases.
 -- Assumes nothing.
 use Prim.Native.Nat.{ℕ, ◌+◌, ◌-◌, ◌≤◌, ◌<◌}
 use native.Mathlib.Omega.{arith}
@@ -11,10 +11,6 @@ use Rattle.octets.specs.Buffer.{put_in}
 use Rattle.octets.specs.BufferLaws.{put_in_room, put_in_length}
 use Rattle.desk_intake.specs.Kept.{kept_of, kept_with, space_kept}
 use Rattle.desk_intake.specs.KeptLaws.{kept_all}
-
--- the contract
-abbrev Keeps : List ℕ → ℕ → List ℕ → ℕ → List ℕ → Type 0
-Keeps space done chunk r out = (r ≡ length (kept_with space done chunk)) × (out ≡ space_kept space done chunk)
 
 module _ (space : List ℕ) (done : ℕ) (chunk : List ℕ) where
   -- octets that end inside and are what is kept after the first ones
@@ -39,12 +35,13 @@ module _ (space : List ℕ) (done : ℕ) (chunk : List ℕ) where
       ∙ take-append-le (length space) space chunk (omega arith)
       ∙ take_all (length space) space (omega arith)
 
-  pub keeps_past : length space < done → Keeps space done chunk (length space) space
+  pub past_value : length space < done → length space ≡ length (kept_with space done chunk)
+  past_value h = sym (ap length (past h))
+
+  pub past_after : length space < done → space ≡ space_kept space done chunk
   unfolding space_kept
-  keeps_past h = (
-    sym (ap length (past h)),
-    sym (ap (λ (k : List ℕ). k ++ drop (length k) space) (past h) ∙ ap (λ (k : List ℕ). space ++ k) (drop-length space) ∙ append-nil space),
-  )
+  past_after h =
+      sym (ap (λ (k : List ℕ). k ++ drop (length k) space) (past h) ∙ ap (λ (k : List ℕ). space ++ k) (drop-length space) ∙ append-nil space)
 
   -- a chunk that is longer than the room: its beginning
   module _ (h : done ≤ length space) (l : length space - done < length chunk) where
@@ -57,10 +54,14 @@ module _ (space : List ℕ) (done : ℕ) (chunk : List ℕ) where
         let whole : length space ≡ length (take done space) + (length space - done) = omega (arith, length-take-le done space h) in
         ap (λ (k : ℕ). take k (take done space ++ chunk)) whole ∙ take-append-add (take done space) chunk (length space - done)
 
-    pub keeps_part : (out : List ℕ) → out ≡ put_in space done (take (length space - done) chunk) → Keeps space done chunk (length out) out
-    keeps_part out e =
-        let s = spliced (take (length space - done) chunk) (omega (arith, part_counted)) begins in
-        (omega (arith, s.0, part_counted, ap length e, put_in_length space done (take (length space - done) chunk)), e ∙ s.1)
+    module _ (out : List ℕ) (e : out ≡ put_in space done (take (length space - done) chunk)) where
+      pub part_value : length out ≡ length (kept_with space done chunk)
+      part_value =
+          let s = spliced (take (length space - done) chunk) (omega (arith, part_counted)) begins in
+          omega (arith, s.0, part_counted, ap length e, put_in_length space done (take (length space - done) chunk))
+
+      pub part_after : out ≡ space_kept space done chunk
+      part_after = e ∙ (spliced (take (length space - done) chunk) (omega (arith, part_counted)) begins).1
 
   -- a chunk that there is room for
   fits : done ≤ length space → length chunk ≤ length space - done → kept_with space done chunk ≡ take done space ++ chunk
@@ -71,6 +72,11 @@ module _ (space : List ℕ) (done : ℕ) (chunk : List ℕ) where
       (take done space ++ chunk)
       (omega (arith, length-append (take done space) chunk, length-take-le done space h))
 
-  pub keeps_whole : done ≤ length space → length chunk ≤ length space - done → (out : List ℕ)
-      → out ≡ put_in space done chunk → Keeps space done chunk (done + length chunk) out
-  keeps_whole h l out e = let s = spliced chunk (omega arith) (fits h l) in (s.0, e ∙ s.1)
+  module _ (h : done ≤ length space) (l : length chunk ≤ length space - done) where
+    pub whole_value : done + length chunk ≡ length (kept_with space done chunk)
+    whole_value = (spliced chunk (omega arith) (fits h l)).0
+
+    pub whole_after : (out : List ℕ) → out ≡ put_in space done chunk → out ≡ space_kept space done chunk
+    whole_after out e = e ∙ (spliced chunk (omega arith) (fits h l)).1
+
+pub ruleset keep_cases = (past_value, past_after, part_counted, part_value, part_after, whole_value, whole_after)

@@ -1,17 +1,17 @@
 -- What the code knows at each return of the line's writer, and the contract there.
--- end_before, end_at_lem, end_inside, end_counted, desk_count, desk_buffer; line_inside, line_counted, line_count, line_buffer;
--- line_read.
+-- end_least_lem; end_inside, end_counted, desk_count, desk_buffer, in end_cases; line_inside, line_counted, line_count, line_buffer,
+-- line_read, in line_cases.
 -- Assumes nothing.
-use Prim.Native.Nat.{ℕ, ◌+◌, ◌-◌, ◌≤◌, ◌<◌}
-use native.Mathlib.Nat.{zero-add}
+use Prim.Native.Nat.{ℕ, ◌+◌, ◌-◌, ◌≤◌, min}
+use native.Mathlib.Nat.{zero-add, min-eq_left, min-eq_right}
 use native.Mathlib.Omega.{arith}
 use mathlib.Core.Path.{◌≡◌, refl, sym, ap, ap₂, ◌∙◌}
-use mathlib.Core.Bool.{cond}
+use mathlib.Core.Bool.{Bool, true, false, cond}
 use mathlib.Core.List.{List}
 use lib.Dec.{ltb}
 use lib.ListN.{length, take, drop, replicate, length-drop}
 use lib.Seq.{length-take-le, take_all, take_at}
-use borrow.Author.Tests.{le-ltb}
+use borrow.Author.Tests.{le-ltb, ltb-true, ltb-false}
 use Rattle.octets.specs.Buffer.{put_in}
 use Rattle.octets.specs.BufferLaws.{put_in_room, put_in_length}
 use Rattle.octets.specs.LentLaws.{Known, known_octets}
@@ -26,11 +26,12 @@ use Rattle.desk_question.proofs.SizeLaws.{asked_sized}
 
 -- ---- the input, cut
 
-pub end_before : (s : List ℕ) → length s < 353 → length s ≡ question_end (length s)
-end_before s h = sym (end_short (length s) h)
-
-pub end_at_lem : (s : List ℕ) → 353 ≤ length s → 353 ≡ question_end (length s)
-end_at_lem s h = sym (end_long (length s) h)
+pub end_least_lem : (n : ℕ) → min n 353 ≡ question_end n
+end_least_lem n = go (ltb n 353) refl
+  where
+    go : (t : Bool) → ltb n 353 ≡ t → min n 353 ≡ question_end n
+    go true e = let h = ltb-true n 353 e in min-eq_left (omega arith) ∙ sym (end_short n h)
+    go false e = let h = ltb-false n 353 e in min-eq_right h ∙ sym (end_long n h)
 
 module _ (s : List ℕ) (end : ℕ) (e : end ≡ question_end (length s)) where
   pub end_inside : end ≤ length s
@@ -87,3 +88,7 @@ module _ (s : List ℕ) (n : ℕ) (e : n ≡ cond (ltb 87 (length (slip_of (desk
 pub line_read : (s : List ℕ) → Known s → read_of 20 (slip_of (desk_of s)) ≡ without_place (desk_of s)
 unfolding desk_of
 line_read s known = read_written (desk_of s) (desk_fits s (known_octets s known)) 20 (λ c. asked_sized (take 353 s) (drop 353 s))
+
+pub ruleset end_cases = (end_inside, end_counted, desk_count, desk_buffer)
+
+pub ruleset line_cases = (line_inside, line_counted, line_count, line_buffer, line_read)

@@ -3,11 +3,10 @@
 -- case_line, no_input_line.
 -- The laws stand here, and what is made of them; the definitions in specs/Examples.
 -- Assumes nothing.
-use Rattle.std.specs.Prelude.{ℕ, ◌≡◌, true, List, [], ◌∷◌, ◌++◌, replicate}
+use Rattle.std.specs.Prelude.{ℕ, ◌≡◌, true, List, [], ◌∷◌, ◌++◌, replicate, Some}
 use Rattle.std.proofs.Math.Path.{refl}
 use Rattle.std.proofs.Common.{lit<}
 use Rattle.answer.specs.Verdict.{refused_at, refused}
-use Rattle.answer.specs.declared.Place.TheVariants as place
 use Rattle.layout.proofs.Opened.{opened}
 use Rattle.layout.specs.Read.{unfit}
 use Rattle.layout.proofs.Read.{reading}
@@ -48,7 +47,7 @@ unfolding opened
 nothing_read = refl
 
 -- no response: it does not fit, at its start
-pub case_alone : desk_of case ≡ refused_at 3 0 (place.At 0)
+pub case_alone : desk_of case ≡ refused_at 3 0 (Some 0)
 unfolding desk_of asked checked
 case_alone = rw (case_fits, case_question_lem, case_name, nothing_read)
 

@@ -2,7 +2,7 @@
 -- is in k more; and what may be said of a place that was refused.
 -- Seen and Near, with refused_found and first_two, serve the laws in HeaderLaws.
 -- The definitions are in Header. Assumes nothing.
-use Rattle.std.specs.Prelude.{ℕ, ◌+◌, ◌-◌, ◌≤◌, ◌<◌, ◌≡◌, Bool, List, [], ◌∷◌, leb, eqb, length, get_or, take, drop}
+use Rattle.std.specs.Prelude.{ℕ, ◌+◌, ◌-◌, ◌≤◌, ◌<◌, ◌≡◌, Bool, List, [], ◌∷◌, leb, eqb, length, get_or, take, drop, Ok, Err}
 use Rattle.std.proofs.Common.{arith, sym}
 use Rattle.std.proofs.Math.Path.{refl}
 use Rattle.std.proofs.Math.Bool.{true, false, cond}
@@ -12,18 +12,18 @@ use Rattle.octets.specs.Number.{value_of}
 use Rattle.element.specs.Tag.{tag_ok}
 use Rattle.element.specs.Length.{shortest}
 use Rattle.element.specs.Header.{inside_of, long_of, length_at, header_of}
-use Rattle.element.specs.declared.Header.{Header}
-use Rattle.element.specs.declared.Header.TheVariants.{Found, Refused}
+use Rattle.element.specs.Places.{HeaderRead, header, misfit}
+use Rattle.element.specs.PlacesLaws.{same_place, same_header}
 
-pub refused_found : (p t h n : ℕ) {X : Type 0} → Refused p ≡ Found t h n → X
+pub refused_found : (p t h n : ℕ) {X : Type 0} → Err (misfit p) ≡ Ok (header t h n) → X
 refused_found p t h n e = let z : ◌≡◌ {A = ℕ} 0 1 = cc in absurd (omega arith)
 
 -- where the other side is a refusal, the test held, or failed
-kept : (b : Bool) (x : Header) (p t h n : ℕ) → cond b x (Refused p) ≡ Found t h n → (b ≡ true) × (x ≡ Found t h n)
+kept : (b : Bool) (x : HeaderRead) (p t h n : ℕ) → cond b x (Err (misfit p)) ≡ Ok (header t h n) → (b ≡ true) × (x ≡ Ok (header t h n))
 kept true x p t h n e = (refl, e)
 kept false x p t h n e = refused_found p t h n e
 
-passed : (b : Bool) (x : Header) (p t h n : ℕ) → cond b (Refused p) x ≡ Found t h n → (b ≡ false) × (x ≡ Found t h n)
+passed : (b : Bool) (x : HeaderRead) (p t h n : ℕ) → cond b (Err (misfit p)) x ≡ Ok (header t h n) → (b ≡ false) × (x ≡ Ok (header t h n))
 passed true x p t h n e = refused_found p t h n e
 passed false x p t h n e = (refl, e)
 
@@ -45,17 +45,17 @@ pub record Seen (s : List ℕ) (t h n : ℕ) : Type 0 where
   pub whole : h + n ≤ length s
   pub lengths : Lengths s h n
 
-inside_found : (m t h n t' h' n' : ℕ) → h ≤ m → inside_of m t h n ≡ Found t' h' n'
+inside_found : (m t h n t' h' n' : ℕ) → h ≤ m → inside_of m t h n ≡ Ok (header t' h' n')
     → (t ≡ t') × (h ≡ h') × (n ≡ n') × (h + n ≤ m)
 unfolding inside_of
 inside_found m t h n t' h' n' le e =
     let q = kept (leb n (m - h)) _ _ t' h' n' e in
-    let f : Found t h n ≡ Found t' h' n' = q.1 in
+    let f = same_header q.1 in
     let b = leb-true n (m - h) q.0 in
-    (cc, cc, cc, omega arith)
+    (f.0, f.1, f.2, omega arith)
 
 module _ (s : List ℕ) (t h n : ℕ) (two : 2 ≤ length s) (tag : tag_ok (get_or s 0 0) ≡ true) where
-  found_by : (h' n' : ℕ) → h' ≤ length s → inside_of (length s) (get_or s 0 0) h' n' ≡ Found t h n → Lengths s h' n' → Seen s t h n
+  found_by : (h' n' : ℕ) → h' ≤ length s → inside_of (length s) (get_or s 0 0) h' n' ≡ Ok (header t h n) → Lengths s h' n' → Seen s t h n
   found_by h' n' le e w =
       let f = inside_found (length s) _ _ _ t h n le e in
       record {
@@ -66,20 +66,20 @@ module _ (s : List ℕ) (t h n : ℕ) (two : 2 ≤ length s) (tag : tag_ok (get_
         lengths = rw (f.1, f.2) at w;
       }
 
-  long_found : (k : ℕ) → get_or s 1 0 ≡ 128 + k → k ≤ 8 → long_of s (get_or s 0 0) k ≡ Found t h n → Seen s t h n
+  long_found : (k : ℕ) → get_or s 1 0 ≡ 128 + k → k ≤ 8 → long_of s (get_or s 0 0) k ≡ Ok (header t h n) → Seen s t h n
   unfolding long_of
   long_found k eb le e =
       let p = passed (ltb (length s) (2 + k)) _ _ t h n e in
       let q = kept (shortest k (value_of (take k (drop 2 s)))) _ _ t h n p.1 in
       found_by (2 + k) _ (ltb-false (length s) (2 + k) p.0) q.1 (more k eb le q.0 refl refl)
 
-  length_found : length_at s (get_or s 0 0) (get_or s 1 0) ≡ Found t h n → Seen s t h n
+  length_found : length_at s (get_or s 0 0) (get_or s 1 0) ≡ Ok (header t h n) → Seen s t h n
   unfolding length_at
   length_found e = go (ltb (get_or s 1 0) 128) refl e
     where
       go : (b : Bool) → ltb (get_or s 1 0) 128 ≡ b
           → cond b (inside_of (length s) (get_or s 0 0) 2 (get_or s 1 0))
-          (cond (eqb (get_or s 1 0) 128) (Refused 0) (cond (ltb 136 (get_or s 1 0)) (Refused 0) (long_of s (get_or s 0 0) (get_or s 1 0 - 128)))) ≡ Found t h n
+          (cond (eqb (get_or s 1 0) 128) (Err (misfit 0)) (cond (ltb 136 (get_or s 1 0)) (Err (misfit 0)) (long_of s (get_or s 0 0) (get_or s 1 0 - 128)))) ≡ Ok (header t h n)
           → Seen s t h n
       go true eb e = found_by 2 (get_or s 1 0) two e (one (ltb-true (get_or s 1 0) 128 eb) refl refl)
       go false eb e =
@@ -89,7 +89,7 @@ module _ (s : List ℕ) (t h n : ℕ) (two : 2 ≤ length s) (tag : tag_ok (get_
           let hi = ltb-false 136 (get_or s 1 0) q.0 in
           long_found (get_or s 1 0 - 128) (omega arith) (omega arith) q.1
 
-pub seen : (s : List ℕ) (t h n : ℕ) → header_of s ≡ Found t h n → Seen s t h n
+pub seen : (s : List ℕ) (t h n : ℕ) → header_of s ≡ Ok (header t h n) → Seen s t h n
 unfolding header_of
 seen s t h n e =
     let p = passed (eqb (length s) 0) _ _ t h n e in
@@ -98,15 +98,15 @@ seen s t h n e =
     length_found s t h n (ltb-false (length s) 2 r.0) q.0 r.1
 
 -- if it is refused, the place lies in the list or at its end
-abbrev pub Near : List ℕ → Header → Type 0
-Near s x = (p : ℕ) → x ≡ Refused p → p ≤ length s
+abbrev pub Near : List ℕ → HeaderRead → Type 0
+Near s x = (p : ℕ) → x ≡ Err (misfit p) → p ≤ length s
 
-pub near_cond : (s : List ℕ) (b : Bool) (x y : Header) → Near s x → Near s y → Near s (cond b x y)
+pub near_cond : (s : List ℕ) (b : Bool) (x y : HeaderRead) → Near s x → Near s y → Near s (cond b x y)
 near_cond s true x y u v = u
 near_cond s false x y u v = v
 
-pub near_at : (s : List ℕ) (q : ℕ) → q ≤ length s → Near s (Refused q)
-near_at s q le p e = let i : q ≡ p = cc in omega arith
+pub near_at : (s : List ℕ) (q : ℕ) → q ≤ length s → Near s (Err (misfit q))
+near_at s q le p e = let i : q ≡ p = same_place e in omega arith
 
 pub near_inside : (s : List ℕ) (m t h n : ℕ) → Near s (inside_of m t h n)
 unfolding inside_of

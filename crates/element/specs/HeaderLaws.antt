@@ -2,7 +2,7 @@
 -- found, and a refused place lies in the list or at its end.
 -- Heads, header_sound, header_two, header_one, header_complete, header_inside, header_tag, header_within, header_empty.
 -- The definitions are in Header and Form. Assumes nothing.
-use Rattle.std.specs.Prelude.{ℕ, suc, ◌+◌, ◌-◌, ◌^◌, ◌≤◌, ◌<◌, ◌≡◌, Bool, true, false, ltb, eqb, length, take, drop}
+use Rattle.std.specs.Prelude.{ℕ, suc, ◌+◌, ◌-◌, ◌^◌, ◌≤◌, ◌<◌, ◌≡◌, Bool, true, false, ltb, eqb, length, take, drop, Ok, Err}
 use Rattle.std.proofs.Math.Nat.{pow-le-pow_right}
 use native.Mathlib.Omega.{arith}
 use Rattle.std.proofs.Math.Path.{refl, ap}
@@ -20,10 +20,10 @@ use Rattle.element.specs.LengthLaws.{count_least, length_short, length_long, sho
 use Rattle.element.specs.Header.{inside_of, long_of, length_at, header_of}
 use Rattle.element.specs.HeaderFoundLaws.{first_two, Lengths, one, more, Seen, seen, near_cond, near_at, near_inside}
 use Rattle.element.specs.Form.{head_form, head_size}
-use Rattle.element.specs.declared.Header.TheVariants.{Found, Refused}
+use Rattle.element.specs.Places.{header, misfit}
 
 -- a header takes two octets at least, and its content ends inside the list
-pub header_inside : (s : List ℕ) (t h n : ℕ) → header_of s ≡ Found t h n → (2 ≤ h) × (h + n ≤ length s)
+pub header_inside : (s : List ℕ) (t h n : ℕ) → header_of s ≡ Ok (header t h n) → (2 ≤ h) × (h + n ≤ length s)
 header_inside s t h n e = go (seen s t h n e).lengths
   where
     go : Lengths s h n → (2 ≤ h) × (h + n ≤ length s)
@@ -31,7 +31,7 @@ header_inside s t h n e = go (seen s t h n e).lengths
     go (more k b le f eh en) = (omega arith, (seen s t h n e).whole)
 
 -- its tag is the first octet
-pub header_tag : (s : List ℕ) (t h n : ℕ) → header_of s ≡ Found t h n → get_or s 0 0 ≡ t
+pub header_tag : (s : List ℕ) (t h n : ℕ) → header_of s ≡ Ok (header t h n) → get_or s 0 0 ≡ t
 header_tag s t h n e = (seen s t h n e).first
 
 -- what a header that was found says
@@ -89,7 +89,7 @@ module _ (s : List ℕ) (o : Octets s) (t h n : ℕ) (v : Seen s t h n) where
         sym (take-append-drop k (drop 2 s)) ∙ ap (λ (r : List ℕ). take k (drop 2 s) ++ r) (drop-drop k 2 s) in
         heads_by (take k (drop 2 s)) (omega arith) long_is (omega (arith, there)) (rw eh w)
 
-pub header_sound : (s : List ℕ) (t h n : ℕ) → Octets s → header_of s ≡ Found t h n → Heads s t h n
+pub header_sound : (s : List ℕ) (t h n : ℕ) → Octets s → header_of s ≡ Ok (header t h n) → Heads s t h n
 header_sound s t h n o e = go (seen s t h n e).lengths
   where
     go : Lengths s h n → Heads s t h n
@@ -103,13 +103,13 @@ header_two s two r q k = rw (ne_eqb (length s) 0 (λ z. omega arith), ← q, k, 
 
 -- each form is found
 pub header_one : (s : List ℕ) → 2 ≤ length s → get_or s 1 0 < 128 → get_or s 1 0 ≤ length s - 2 → tag_ok (get_or s 0 0) ≡ true
-    → header_of s ≡ Found (get_or s 0 0) 2 (get_or s 1 0)
+    → header_of s ≡ Ok (header (get_or s 0 0) 2 (get_or s 1 0))
 unfolding length_at inside_of
 header_one s two b i k = rw (header_two s two (tag_ok (get_or s 0 0)) refl k, lt-ltb (get_or s 1 0) 128 b, le-leb (get_or s 1 0) (length s - 2) i)
 
 module _ (t k : ℕ) (c w : List ℕ) (ok : tag_ok t ≡ true) (size : length c ≡ k) (few : k ≤ 8) (some : 1 ≤ k)
     (short : shortest k (value_of c) ≡ true) (le : value_of c ≤ length w) where
-  complete_long : long_of (t ∷ (128 + k) ∷ (c ++ w)) t k ≡ Found t (2 + k) (value_of c)
+  complete_long : long_of (t ∷ (128 + k) ∷ (c ++ w)) t k ≡ Ok (header t (2 + k) (value_of c))
   unfolding long_of inside_of
   complete_long =
       let l = length-append c w in
@@ -117,7 +117,7 @@ module _ (t k : ℕ) (c w : List ℕ) (ok : tag_ok t ≡ true) (size : length c 
       let i = le-leb (value_of c) (suc (suc (length (c ++ w))) - (2 + k)) (omega arith) in
       simp (take_at c w k size, a, short, i)
 
-  complete_more : header_of (t ∷ (128 + k) ∷ (c ++ w)) ≡ Found t (2 + k) (value_of c)
+  complete_more : header_of (t ∷ (128 + k) ∷ (c ++ w)) ≡ Ok (header t (2 + k) (value_of c))
   unfolding length_at
   complete_more =
       let z = header_two (t ∷ (128 + k) ∷ (c ++ w)) (omega arith) (tag_ok t) refl ok in
@@ -128,11 +128,11 @@ module _ (t k : ℕ) (c w : List ℕ) (ok : tag_ok t ≡ true) (size : length c 
       simp (z, b, d, f, g, complete_long)
 
 pub header_complete : (t n : ℕ) (w : List ℕ) → tag_ok t ≡ true → n < 2 ^ 64 → n ≤ length w
-    → header_of (head_form t n ++ w) ≡ Found t (head_size n) n
+    → header_of (head_form t n ++ w) ≡ Ok (header t (head_size n) n)
 unfolding head_size
 header_complete t n w ok f le = go (ltb n 128) refl
   where
-    go : (b : Bool) → ltb n 128 ≡ b → header_of (head_form t n ++ w) ≡ Found t (1 + length (length_form n)) n
+    go : (b : Bool) → ltb n 128 ≡ b → header_of (head_form t n ++ w) ≡ Ok (header t (1 + length (length_form n)) n)
     go true e = let h = ltb-true n 128 e in rw (length_short n h) (header_one (t ∷ n ∷ w) (omega arith) h (omega arith) ok)
     go false e =
         let h = ltb-false n 128 e in
@@ -145,7 +145,7 @@ header_complete t n w ok f le = go (ltb n 128) refl
         rw (length_long n h, l, z) (rw v at m)
 
 -- a refused place lies in the list or at its end
-pub header_within : (s : List ℕ) (p : ℕ) → header_of s ≡ Refused p → p ≤ length s
+pub header_within : (s : List ℕ) (p : ℕ) → header_of s ≡ Err (misfit p) → p ≤ length s
 unfolding header_of length_at long_of
 header_within s =
     let z = near_at s 0 (omega arith) in
@@ -164,6 +164,6 @@ header_within s =
     z)
 
 -- where nothing stands, the place is the start
-pub header_empty : header_of [] ≡ Refused 0
+pub header_empty : header_of [] ≡ Err (misfit 0)
 unfolding header_of
 header_empty = refl

@@ -1,3 +1,5 @@
+pub mod Places
+pub mod PlacesLaws
 pub mod Tag
 pub mod Length
 pub mod LengthLaws

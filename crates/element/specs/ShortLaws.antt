@@ -1,13 +1,13 @@
 -- Laws of a short header, by the answer that code has of it: its two octets are there, and are the tag and the length.
 -- short_first, short_second, short_found. The definition is in Header.
 -- Assumes nothing.
-use Rattle.std.specs.Prelude.{ℕ, ◌-◌, ◌≤◌, ◌<◌, ◌≡◌, refl, Bool, true, false, ◌&&◌, List, leb, length, get_or}
+use Rattle.std.specs.Prelude.{ℕ, ◌-◌, ◌≤◌, ◌<◌, ◌≡◌, refl, Bool, true, false, ◌&&◌, List, leb, length, get_or, Ok}
 use Rattle.std.proofs.Common.{arith, sym, ◌∙◌, leb-true}
 use Rattle.octets.specs.SameLaws.{impossible}
 use Rattle.element.specs.Tag.{tag_ok}
 use Rattle.element.specs.Header.{header_of, is_short}
 use Rattle.element.specs.HeaderLaws.{header_one}
-use Rattle.element.specs.declared.Header.TheVariants.{Found}
+use Rattle.element.specs.Places.{header}
 
 -- where both answers are yes
 both : (a b : Bool) → a && b ≡ true → (a ≡ true) × (b ≡ true)
@@ -31,5 +31,5 @@ module _ (s : List ℕ) (b : Bool) (q : b ≡ is_short s) (y : b ≡ true) where
   pub short_second : 1 < length s
   short_second = omega (arith, (parts s (sym q ∙ y)).0)
 
-  pub short_found : Found (get_or s 0 0) 2 (get_or s 1 0) ≡ header_of s
+  pub short_found : Ok (header (get_or s 0 0) 2 (get_or s 1 0)) ≡ header_of s
   short_found = let (h, k, l, m) = parts s (sym q ∙ y) in sym (header_one s h (omega arith) l m)

@@ -15,27 +15,37 @@ pub use tags::{tag_fits, tag_of};
 pub use writers::put_header;
 
 // The three fields of a tag octet.
-#[derive(Clone, Copy)]
+#[derive(Clone, Copy, Debug, PartialEq, Eq)]
 pub struct Tag {
     pub class: u8,
     pub constructed: bool,
     pub number: u8,
 }
 
-// What stands at the head of a part.
-#[derive(Clone, Copy)]
-pub enum Header {
-    // An element with this tag; its content starts at start and is len octets long.
-    Found { tag: u8, start: usize, len: usize },
-    // No element: the place that is refused.
-    Refused(usize),
+// The header of an element with this tag: its content starts at start and is len octets long.
+#[derive(Clone, Copy, Debug, PartialEq, Eq)]
+pub struct Header {
+    pub tag: u8,
+    pub start: usize,
+    pub len: usize,
 }
 
-// What came of writing a header.
-#[derive(Clone, Copy)]
-pub enum Formed {
-    // The place after it.
-    Next(usize),
+// What is not in order: the place that is refused.
+#[derive(Clone, Copy, Debug, PartialEq, Eq)]
+pub struct Misfit {
+    pub place: usize,
+}
+
+// A part of what was lent: the len octets from start.
+#[derive(Clone, Copy, Debug, PartialEq, Eq)]
+pub struct Span {
+    pub start: usize,
+    pub len: usize,
+}
+
+// Why no header was written.
+#[derive(Clone, Copy, Debug, PartialEq, Eq)]
+pub enum Unformed {
     // The buffer has no room for it.
     Short,
     // No element has such a tag.

@@ -5,6 +5,7 @@ ghost use Rattle.element.specs.Tag.{tag_of, tag_ok};
 use crate::Tag;
 
 // The class, the constructed bit and the number of a tag octet.
+#[tactic(auto, using(crate::proofs::TagCases::low_bit, crate::proofs::TagCases::low_bits))]
 pub fn tag_of(t: u8) -> Tag
     ensures { result ≡ tag_of t }
 {
@@ -16,15 +17,10 @@ pub fn tag_of(t: u8) -> Tag
 }
 
 // Whether an element may have this tag: not number 31, and not universal number 0.
+#[tactic(auto, unfolding(crate::specs::Tag::tag_ok))]
 pub fn tag_fits(t: u8) -> bool
     ensures { result ≡ tag_ok t }
 {
     let tag = tag_of(t);
-    if tag.number == 31 {
-        return false;
-    }
-    if tag.number != 0 {
-        return true;
-    }
-    tag.class != 0
+    tag.number != 31 && (tag.number != 0 || tag.class != 0)
 }

@@ -1,7 +1,7 @@
 -- The faults of a layout ascend from the head of the list to its end, whatever the list is.
 -- item_ascends, line_ascends.
 -- Assumes nothing.
-use Rattle.std.specs.Prelude.{ℕ, zero, suc, ◌+◌, ◌-◌, ◌≤◌, ◌≡◌, refl, Bool, cond, eqb, length, take}
+use Rattle.std.specs.Prelude.{ℕ, zero, suc, ◌+◌, ◌-◌, ◌≤◌, ◌≡◌, refl, Bool, cond, eqb, length, take, Ok, Err}
 use native.Mathlib.Omega.{arith}
 use Rattle.std.proofs.Math.Bool.{true, false}
 use mathlib.Core.List.{List, [], ◌∷◌, ◌++◌}
@@ -9,8 +9,7 @@ use Rattle.std.proofs.Math.ListN.{drop, length-drop}
 use Rattle.std.proofs.Common.{length-take-le}
 use Rattle.element.specs.Header.{header_of}
 use Rattle.element.specs.HeaderLaws.{header_inside, header_within}
-use Rattle.element.specs.declared.Header.{Header}
-use Rattle.element.specs.declared.Header.TheVariants.{Found, Refused}
+use Rattle.element.specs.Places.{HeaderRead}
 use Rattle.codec.specs.Starts.{starts_with}
 use Rattle.codec.specs.Keys.{new_test}
 use Rattle.codec.specs.Tree.{constructed}
@@ -21,9 +20,9 @@ use Rattle.faults.proofs.OrderLaws.{ascend_from, ascend_append, ascend_later, as
 
 -- ── rows ──
 -- where the element at the head ends, or the list where its header is refused
-abbrev end_in : List ℕ → Header → ℕ
-end_in s (Found t h n) = h + n
-end_in s (Refused p) = length s
+abbrev end_in : List ℕ → HeaderRead → ℕ
+end_in s (Ok h) = h.start + h.len
+end_in s (Err p) = length s
 
 abbrev HeadAscends : (List ℕ → List ℕ) → Type 0
 HeadAscends f = (s : List ℕ) → Ascending 0 (f s) (end_in s (header_of s))
@@ -42,12 +41,12 @@ module _ (f : List ℕ → List ℕ) (heads : HeadAscends f) where
   then_ascends g tails s =
       ascend_append 0 (end_in s (header_of s)) (length s) (f s) (after_in g s (header_of s)) (heads s) (go (header_of s) refl)
     where
-      go : (x : Header) → header_of s ≡ x → Ascending (end_in s x) (after_in g s x) (length s)
-      go (Refused p) ex = omega arith
-      go (Found t h n) ex =
-          let i = header_inside s t h n ex in
-          let r = drop (h + n) s in
-          ascend_later (h + n) (length r) (length s) (g r) (tails r) (simp length-drop (omega arith))
+      go : (x : HeaderRead) → header_of s ≡ x → Ascending (end_in s x) (after_in g s x) (length s)
+      go (Err p) ex = omega arith
+      go (Ok h) ex =
+          let i = header_inside s h.tag h.start h.len ex in
+          let r = drop (h.start + h.len) s in
+          ascend_later (h.start + h.len) (length r) (length s) (g r) (tails r) (simp length-drop (omega arith))
 
   perhaps_ascends : (t : ℕ) (g : List ℕ → List ℕ) → WholeAscends g → WholeAscends (perhaps_faults t f g)
   unfolding perhaps_faults
@@ -95,9 +94,9 @@ tagged_ascends u f inside s = go (header_of s) refl
     on h n c e true = rw e at (inside h c)
     on h n c e false = (omega arith, omega arith)
 
-    go : (x : Header) → header_of s ≡ x → Ascending 0 (tagged_in u f s x) (end_in s x)
-    go (Refused p) ex = (omega arith, header_within s p ex)
-    go (Found t h n) ex = on h n (take n (drop h s)) (content_size s h n (header_inside s t h n ex).1) (eqb t u)
+    go : (x : HeaderRead) → header_of s ≡ x → Ascending 0 (tagged_in u f s x) (end_in s x)
+    go (Err p) ex = (omega arith, header_within s p.place ex)
+    go (Ok h) ex = on h.start h.len (take h.len (drop h.start s)) (content_size s h.start h.len (header_inside s h.tag h.start h.len ex).1) (eqb h.tag u)
 
 inner_ascends : (g : List ℕ → List ℕ) → WholeAscends g → (h : ℕ) (c : List ℕ) → Ascending 0 (shift h (g c)) (h + length c)
 inner_ascends g w h c = ascend_from 0 h (h + length c) (shift h (g c)) (omega arith) (ascend_later h (length c) (h + length c) (g c) (w c) (omega arith))
@@ -120,10 +119,10 @@ free_ascends (suc d) s = go (header_of s) refl (any_ascends (free_faults d) (fre
     on h n c e w true = rw e at (inner_ascends (any_faults (free_faults d)) w h c)
     on h n c e w false = omega arith
 
-    go : (x : Header) → header_of s ≡ x → WholeAscends (any_faults (free_faults d))
+    go : (x : HeaderRead) → header_of s ≡ x → WholeAscends (any_faults (free_faults d))
         → Ascending 0 (free_in (free_faults d) s x) (end_in s x)
-    go (Refused p) ex w = (omega arith, header_within s p ex)
-    go (Found t h n) ex w = on h n (take n (drop h s)) (content_size s h n (header_inside s t h n ex).1) w (constructed t)
+    go (Err p) ex w = (omega arith, header_within s p.place ex)
+    go (Ok h) ex w = on h.start h.len (take h.len (drop h.start s)) (content_size s h.start h.len (header_inside s h.tag h.start h.len ex).1) w (constructed h.tag)
 
 free_with_ascends : (u d : ℕ) → HeadAscends (free_with_faults u d)
 unfolding free_with_faults
@@ -133,9 +132,9 @@ free_with_ascends u d s = go (header_of s) refl (free_ascends d s)
     on k v true = v
     on k v false = (omega arith, omega arith)
 
-    go : (x : Header) → header_of s ≡ x → Ascending 0 (free_faults d s) (end_in s x) → Ascending 0 (tagged_in u (λ h c. free_faults d s) s x) (end_in s x)
-    go (Refused p) ex v = (omega arith, header_within s p ex)
-    go (Found t h n) ex v = on (h + n) v (eqb t u)
+    go : (x : HeaderRead) → header_of s ≡ x → Ascending 0 (free_faults d s) (end_in s x) → Ascending 0 (tagged_in u (λ h c. free_faults d s) s x) (end_in s x)
+    go (Err p) ex v = (omega arith, header_within s p.place ex)
+    go (Ok h) ex v = on (h.start + h.len) v (eqb h.tag u)
 
 keyed_ascends : (t u : ℕ) (test : List ℕ → Bool) (g : List ℕ → List ℕ) → WholeAscends g → (seen : List (List ℕ))
     → HeadAscends (keyed_faults t u test g seen)

@@ -29,7 +29,7 @@ inside_after : line_faults pair_line (0x30 ∷ 4 ∷ 4 ∷ 0 ∷ 2 ∷ 0 ∷ 9 �
 unfolding opened
 inside_after = refl
 
--- a cut_off header and a missing element: the end of what holds it, not of the list
+-- a cut-off header and a missing element: the end of what holds it, not of the list
 cut_off : line_faults pair_line (0x30 ∷ 3 ∷ 4 ∷ 0 ∷ 2 ∷ []) ≡ 5 ∷ []
 unfolding opened
 cut_off = refl

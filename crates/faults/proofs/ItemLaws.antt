@@ -2,7 +2,7 @@
 -- leaf_finds, around_finds, either_finds, free_finds, free_with_finds; called_finds.
 -- Rows are in RowLaws.
 -- Assumes nothing.
-use Rattle.std.specs.Prelude.{ℕ, zero, suc, ◌+◌, ◌≡◌, Bool, cond, eqb, take, drop}
+use Rattle.std.specs.Prelude.{ℕ, zero, suc, ◌+◌, ◌≡◌, Bool, cond, eqb, take, drop, Ok, Err}
 use Rattle.std.proofs.Common.{arith, sym, ap, inl, inr}
 use Rattle.std.proofs.Math.Path.{refl}
 use Rattle.std.proofs.Math.Bool.{true, false}
@@ -10,7 +10,8 @@ use mathlib.Core.List.{List, [], ◌∷◌}
 use Rattle.std.proofs.Math.Option.{Option}
 use Rattle.element.specs.Header.{header_of}
 use Rattle.element.specs.declared.Header.{Header}
-use Rattle.element.specs.declared.Header.TheVariants.{Found, Refused}
+use Rattle.element.specs.Places.{HeaderRead, misfit}
+use Rattle.element.specs.PlacesLaws.{same_place}
 use Rattle.codec.specs.Codec.{Read, read, broke, Got, got, bad}
 use Rattle.codec.specs.Outcome.{renamed, called, attach}
 use Rattle.codec.specs.Contents.{filled_dec}
@@ -24,8 +25,7 @@ use Rattle.codec.specs.TreeRead.{node_of, node_dec, tree_dec}
 use Rattle.codec.specs.TreeTagged.{wanted_of, tree_tagged_dec}
 use Rattle.codec.specs.Views.{fit_of}
 use Rattle.codec.proofs.ViewLaws.{fit_renamed}
-use Rattle.codec.specs.declared.Fit.{Fit}
-use Rattle.codec.specs.declared.Fit.TheVariants.{Fits, Breaks}
+use Rattle.codec.specs.Steps.{Fit}
 use Rattle.faults.specs.Faults.{shift, unless, tagged_in, leaf_faults, around_faults, free_in, free_faults, free_with_faults, any_faults}
 use Rattle.faults.specs.Order.{leftmost}
 use Rattle.faults.specs.Finds.{Finds, HeadFinds, WholeFinds}
@@ -33,21 +33,21 @@ use Rattle.faults.proofs.RowLaws.{any_finds}
 
 -- what an element's content gives the element, against the faults there
 abbrev placed : (ℕ → ℕ) → Fit → Fit
-placed k Fits = Fits
-placed k (Breaks p) = Breaks (k p)
+placed k (Ok x) = Ok x
+placed k (Err p) = Err (misfit (k p.place))
 
 first_inner : (h : ℕ) (l : List ℕ) → leftmost (shift h l) ≡ placed (inner h) (leftmost l)
 unfolding leftmost
 first_inner h [] = refl
 first_inner h (p ∷ l) = refl
 
-attached : {A : Type 0} (k : ℕ → ℕ) (t h n : ℕ) (o : Read A) (l : List ℕ) → leftmost l ≡ placed k (fit_of o)
-    → Finds (attach k (h + n) o) (Found t h n) l
+attached : {A : Type 0} (k : ℕ → ℕ) (h : Header) (o : Read A) (l : List ℕ) → leftmost l ≡ placed k (fit_of o)
+    → Finds (attach k (h.start + h.len) o) (Ok h) l
 unfolding leftmost fit_of
-attached k t h n (read a) [] e = (a, t, h, n, refl, refl)
-attached k t h n (read a) (p ∷ l) e = let z : ◌≡◌ {A = ℕ} 0 1 = cc in absurd (omega arith)
-attached k t h n (broke q) [] e = let z : ◌≡◌ {A = ℕ} 0 1 = cc in absurd (omega arith)
-attached k t h n (broke q) (p ∷ l) e = let i : p ≡ k q = cc in ap bad (sym i)
+attached k h (read a) [] e = (a, h, refl, refl)
+attached k h (read a) (p ∷ l) e = let z : ◌≡◌ {A = ℕ} 0 1 = cc in absurd (omega arith)
+attached k h (broke q) [] e = let z : ◌≡◌ {A = ℕ} 0 1 = cc in absurd (omega arith)
+attached k h (broke q) (p ∷ l) e = ap bad (sym (same_place e))
 
 -- ── a tag around a content or a whole list ──
 module _ {A : Type 0} (at : ℕ → ℕ → ℕ) (u : ℕ) (d : List ℕ → Read A) where
@@ -56,14 +56,14 @@ module _ {A : Type 0} (at : ℕ → ℕ → ℕ) (u : ℕ) (d : List ℕ → Rea
   unfolding tagged_dec
   tagged_finds f same s = go (header_of s)
     where
-      on : (t h n : ℕ) (b : Bool)
-          → Finds (cond b (attach (at h) (h + n) (d (take n (drop h s)))) (bad 0)) (Found t h n) (cond b (f h (take n (drop h s))) (0 ∷ []))
-      on t h n true = attached (at h) t h n (d (take n (drop h s))) (f h (take n (drop h s))) (same h (take n (drop h s)))
-      on t h n false = refl
+      on : (h : Header) (c : List ℕ) (b : Bool)
+          → Finds (cond b (attach (at h.start) (h.start + h.len) (d c)) (bad 0)) (Ok h) (cond b (f h.start c) (0 ∷ []))
+      on h c true = attached (at h.start) h (d c) (f h.start c) (same h.start c)
+      on h c false = refl
 
-      go : (x : Header) → Finds (tagged_of at u d s x) x (tagged_in u f s x)
-      go (Refused p) = refl
-      go (Found t h n) = on t h n (eqb t u)
+      go : (x : HeaderRead) → Finds (tagged_of at u d s x) x (tagged_in u f s x)
+      go (Err p) = refl
+      go (Ok h) = on h (take h.len (drop h.start s)) (eqb h.tag u)
 
 pub leaf_finds : {A : Type 0} (t : ℕ) (d : List ℕ → Option A) (test : List ℕ → Bool) → WholeFinds (filled_dec d) (λ c. unless (test c))
     → HeadFinds (tagged_dec own t (filled_dec d)) (leaf_faults t test)
@@ -80,8 +80,8 @@ unfolding around_faults
 around_finds t d g w s = tagged_finds inner t d (λ h c. shift h (g c)) (λ h c. rw (w c) (first_inner h (g c))) s
 
 -- ── other names, and one of two ──
-renamed_finds : {A B : Type 0} (k : A → B) (g : Got A) (x : Header) (l : List ℕ) → Finds g x l → Finds (called k g) x l
-renamed_finds k g x [] v = (k v.0, v.1, v.2, v.3, v.4, ap (called k) v.5)
+renamed_finds : {A B : Type 0} (k : A → B) (g : Got A) (x : HeaderRead) (l : List ℕ) → Finds g x l → Finds (called k g) x l
+renamed_finds k g x [] v = (k v.0, v.1, v.2, ap (called k) v.3)
 renamed_finds k g x (p ∷ l) v = ap (called k) v
 
 pub called_finds : {A B : Type 0} (k : A → B) (d : List ℕ → Got A) (f : List ℕ → List ℕ) → HeadFinds d f → HeadFinds (called_dec k d) f
@@ -111,15 +111,15 @@ module _ (d : List ℕ → Got Tree) (f : List ℕ → List ℕ) (heads : HeadFi
   unfolding node_dec
   node_finds s = go (header_of s)
     where
-      on : (t h n : ℕ) (c : List ℕ) (b : Bool)
-          → Finds (cond b (attach (inner h) (h + n) (renamed (λ l. node t (run_of l)) (all_dec d c))) (got (prim t c) (h + n))) (Found t h n)
-          (cond b (shift h (any_faults f c)) [])
-      on t h n c true = attached (inner h) t h n (renamed (λ l. node t (run_of l)) (all_dec d c)) (shift h (any_faults f c)) (held t h c)
-      on t h n c false = (prim t c, t, h, n, refl, refl)
+      on : (h : Header) (c : List ℕ) (b : Bool)
+          → Finds (cond b (attach (inner h.start) (h.start + h.len) (renamed (λ l. node h.tag (run_of l)) (all_dec d c))) (got (prim h.tag c) (h.start + h.len))) (Ok h)
+          (cond b (shift h.start (any_faults f c)) [])
+      on h c true = attached (inner h.start) h (renamed (λ l. node h.tag (run_of l)) (all_dec d c)) (shift h.start (any_faults f c)) (held h.tag h.start c)
+      on h c false = (prim h.tag c, h, refl, refl)
 
-      go : (x : Header) → Finds (node_of d s x) x (free_in f s x)
-      go (Refused p) = refl
-      go (Found t h n) = on t h n (take n (drop h s)) (constructed t)
+      go : (x : HeaderRead) → Finds (node_of d s x) x (free_in f s x)
+      go (Err p) = refl
+      go (Ok h) = on h (take h.len (drop h.start s)) (constructed h.tag)
 
 pub free_finds : (d : ℕ) → HeadFinds (tree_dec d) (free_faults d)
 unfolding tree_dec free_faults
@@ -130,11 +130,11 @@ pub free_with_finds : (u d : ℕ) → HeadFinds (tree_tagged_dec u d) (free_with
 unfolding tree_tagged_dec free_with_faults
 free_with_finds u d s = go (header_of s) (free_finds d s)
   where
-    on : (x : Header) → Finds (tree_dec d s) x (free_faults d s) → (b : Bool)
+    on : (x : HeaderRead) → Finds (tree_dec d s) x (free_faults d s) → (b : Bool)
         → Finds (cond b (tree_dec d s) (bad 0)) x (cond b (free_faults d s) (0 ∷ []))
     on x v true = v
     on x v false = refl
 
-    go : (x : Header) → Finds (tree_dec d s) x (free_faults d s) → Finds (wanted_of u (tree_dec d) s x) x (tagged_in u (λ h c. free_faults d s) s x)
-    go (Refused p) v = refl
-    go (Found t h n) v = on (Found t h n) v (eqb t u)
+    go : (x : HeaderRead) → Finds (tree_dec d s) x (free_faults d s) → Finds (wanted_of u (tree_dec d) s x) x (tagged_in u (λ h c. free_faults d s) s x)
+    go (Err p) v = refl
+    go (Ok h) v = on (Ok h) v (eqb h.tag u)

@@ -2,9 +2,10 @@
 -- ascend_end, ascend_from, ascend_append, ascend_shift, ascend_later, ascend_unless, ascend_cond; first_least,
 -- least_first, first_none.
 -- Assumes nothing.
-use Rattle.std.specs.Prelude.{ℕ, ◌+◌, ◌≤◌, ◌≡◌, refl, Bool, true, false, cond, List, [], ◌∷◌, ◌++◌}
+use Rattle.std.specs.Prelude.{ℕ, ◌+◌, ◌≤◌, ◌≡◌, refl, Bool, true, false, cond, List, [], ◌∷◌, ◌++◌, Ok, Err}
 use Rattle.std.proofs.Common.{arith, ap, inl, inr}
-use Rattle.codec.specs.declared.Fit.TheVariants.{Fits, Breaks}
+use Rattle.element.specs.Places.{misfit}
+use Rattle.element.specs.PlacesLaws.{same_place}
 use Rattle.faults.specs.Faults.{shift, unless}
 use Rattle.faults.specs.Order.{Ascending, leftmost, Among, Least}
 
@@ -44,25 +45,25 @@ ascend_least a b [] h q x = elim x [ ]
 ascend_least a b (p ∷ l) h q (inl e) = omega (arith, h.0)
 ascend_least a b (p ∷ l) h q (inr m) = let i = ascend_least p b l h.1 q m in omega (arith, h.0)
 
-pub first_least : (a b : ℕ) (l : List ℕ) → Ascending a l b → (p : ℕ) → leftmost l ≡ Breaks p → Least p l
+pub first_least : (a b : ℕ) (l : List ℕ) → Ascending a l b → (p : ℕ) → leftmost l ≡ Err (misfit p) → Least p l
 unfolding leftmost
 first_least a b [] h p e = let z : ◌≡◌ {A = ℕ} 0 1 = cc in absurd (omega arith)
 first_least a b (x ∷ l) h p e =
-    let i : x ≡ p = cc in
+    let i : x ≡ p = same_place e in
     rw (← i) (inl refl, go)
   where
     go : (q : ℕ) → Among q (x ∷ l) → x ≤ q
     go q (inl e) = omega arith
     go q (inr m) = ascend_least x b l h.1 q m
 
-pub least_first : (a b : ℕ) (l : List ℕ) → Ascending a l b → (p : ℕ) → Least p l → leftmost l ≡ Breaks p
+pub least_first : (a b : ℕ) (l : List ℕ) → Ascending a l b → (p : ℕ) → Least p l → leftmost l ≡ Err (misfit p)
 unfolding leftmost
 least_first a b [] h p m = absurd m.0
 least_first a b (x ∷ l) h p m =
     let i = first_least a b (x ∷ l) h x refl in
-    ap Breaks (omega (arith, i.1 p m.0, m.1 x (inl refl)))
+    ap (λ (j : ℕ). Err (misfit j)) (omega (arith, i.1 p m.0, m.1 x (inl refl)))
 
-pub first_none : (l : List ℕ) → leftmost l ≡ Fits → l ≡ []
+pub first_none : (l : List ℕ) → leftmost l ≡ Ok tt → l ≡ []
 unfolding leftmost
 first_none [] e = refl
 first_none (x ∷ l) e = let z : ◌≡◌ {A = ℕ} 0 1 = cc in absurd (omega arith)

@@ -2,7 +2,7 @@
 -- tagged_content, rest_of, tag_of; field_of, only_of, Branched, branch_of_lem; filling, held.
 -- The laws stand here, and what is made of them; the definitions in specs/PartLaws.
 -- Assumes nothing.
-use Rattle.std.specs.Prelude.{ℕ, ◌+◌, ◌≡◌, Bool, false, List, ◌⊎◌, eqb, take}
+use Rattle.std.specs.Prelude.{ℕ, ◌+◌, ◌≡◌, Bool, false, List, ◌⊎◌, eqb, take, Ok, Err}
 use Rattle.std.proofs.Common.{arith, sym, ◌∙◌, inl, inr}
 use Rattle.std.proofs.Math.Path.{refl, ap}
 use Rattle.std.proofs.Math.Bool.{true}
@@ -10,8 +10,7 @@ use Rattle.std.proofs.Math.ListN.{drop, get_or}
 use borrow.Author.Tests.{eqb-true, eq-eqb}
 use Rattle.element.specs.Header.{header_of}
 use Rattle.element.specs.HeaderLaws.{header_inside, header_tag}
-use Rattle.element.specs.declared.Header.{Header}
-use Rattle.element.specs.declared.Header.TheVariants.{Found, Refused}
+use Rattle.element.specs.Places.{HeaderRead}
 use Rattle.codec.specs.Codec.{Read, read, Got, got}
 use Rattle.codec.proofs.Outcome.{bad_got, further_read, renamed_read, on_got_read, attach_got, tested_got}
 use Rattle.codec.specs.Contents.{octets_read, filled_dec}
@@ -31,33 +30,33 @@ module _ {A : Type 0} (at : ℕ → ℕ → ℕ) (u : ℕ) (d : List ℕ → Rea
   unfolding tagged_dec content_at
   tagged_content = go (header_of s) e
     where
-      go : (x : Header) → tagged_of at u d s x ≡ got a n → d (content_in s x) ≡ read a
-      go (Refused p) e = bad_got e
-      go (Found t h m) e =
-          let q = tested_got (eqb t u) _ _ a n e in
-          (attach_got (at h) (h + m) (d (take m (drop h s))) a n q.1).0
+      go : (x : HeaderRead) → tagged_of at u d s x ≡ got a n → d (content_in s x) ≡ read a
+      go (Err p) e = bad_got e
+      go (Ok h) e =
+          let q = tested_got (eqb h.tag u) _ _ a n e in
+          (attach_got (at h.start) (h.start + h.len) (d (take h.len (drop h.start s))) a n q.1).0
 
   -- and it ends where its header says
   pub rest_of : drop n s ≡ rest_at s
   unfolding tagged_dec rest_at
   rest_of = go (header_of s) e
     where
-      go : (x : Header) → tagged_of at u d s x ≡ got a n → drop n s ≡ rest_in s x
-      go (Refused p) e = bad_got e
-      go (Found t h m) e =
-          let q = tested_got (eqb t u) _ _ a n e in
-          ap (λ (k : ℕ). drop k s) (sym (attach_got (at h) (h + m) (d (take m (drop h s))) a n q.1).1)
+      go : (x : HeaderRead) → tagged_of at u d s x ≡ got a n → drop n s ≡ rest_in s x
+      go (Err p) e = bad_got e
+      go (Ok h) e =
+          let q = tested_got (eqb h.tag u) _ _ a n e in
+          ap (λ (k : ℕ). drop k s) (sym (attach_got (at h.start) (h.start + h.len) (d (take h.len (drop h.start s))) a n q.1).1)
 
   -- and begins with its tag
   pub tag_of : starts_with u s ≡ true
   unfolding tagged_dec
   tag_of = go (header_of s) refl e
     where
-      go : (x : Header) → header_of s ≡ x → tagged_of at u d s x ≡ got a n → starts_with u s ≡ true
-      go (Refused p) ex e = bad_got e
-      go (Found t h m) ex e =
-          let i = header_inside s t h m ex in
-          let j : get_or s 0 0 ≡ u = header_tag s t h m ex ∙ eqb-true t u (tested_got (eqb t u) _ _ a n e).0 in
+      go : (x : HeaderRead) → header_of s ≡ x → tagged_of at u d s x ≡ got a n → starts_with u s ≡ true
+      go (Err p) ex e = bad_got e
+      go (Ok h) ex e =
+          let i = header_inside s h.tag h.start h.len ex in
+          let j : get_or s 0 0 ≡ u = header_tag s h.tag h.start h.len ex ∙ eqb-true h.tag u (tested_got (eqb h.tag u) _ _ a n e).0 in
           starts_first u s (omega (arith, i.0, i.1)) ∙ eq-eqb (get_or s 0 0) u j
 
 pub field_of : {A B : Type 0} (d : List ℕ → Got A) (d' : List ℕ → Read B) (s : List ℕ) (x : A × B) → field_dec d d' s ≡ read x

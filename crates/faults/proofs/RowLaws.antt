@@ -2,7 +2,7 @@
 -- first_shift, next_finds; end_finds, then_finds, perhaps_finds, only_finds, one_finds, several_finds, any_finds,
 -- distinct_finds, depending_finds; named_finds. Elements are in ItemLaws.
 -- Assumes nothing.
-use Rattle.std.specs.Prelude.{ℕ, zero, suc, ◌+◌, ◌-◌, ◌≡◌, Bool, cond, eqb, length, drop}
+use Rattle.std.specs.Prelude.{ℕ, zero, suc, ◌+◌, ◌-◌, ◌≡◌, Bool, cond, eqb, length, drop, Ok}
 use Rattle.std.proofs.Math.Path.{refl, sym, ap}
 use Rattle.std.proofs.Common.{◌∙◌}
 use Rattle.std.proofs.Math.Bool.{true, false}
@@ -11,7 +11,7 @@ use Rattle.std.proofs.Math.Logic.{inl, inr}
 use Rattle.std.proofs.Math.Option.{none, some}
 use Rattle.element.specs.Header.{header_of}
 use Rattle.element.specs.declared.Header.{Header}
-use Rattle.element.specs.declared.Header.TheVariants.{Found}
+use Rattle.element.specs.Places.{HeaderRead}
 use Rattle.codec.specs.Codec.{Read, read, broke, Got, got}
 use Rattle.codec.specs.Outcome.{further, on_got}
 use Rattle.codec.specs.Mapped.{mapped_dec}
@@ -37,12 +37,13 @@ first_shift n (p ∷ l) = refl
 -- ── an element, then what follows it ──
 module _ {A B C : Type 0} (d : List ℕ → Got A) (f : List ℕ → List ℕ) (rest : A → List ℕ → Read B) (join : A → B → C)
     (g : List ℕ → List ℕ) (s : List ℕ) (tails : (a : A) (n : ℕ) → d s ≡ got a n → (r : List ℕ) → fit_of (rest a r) ≡ leftmost (g r)) where
-  next_fits : (a : A) (t h n : ℕ) → header_of s ≡ Found t h n → d s ≡ got a (h + n)
+  next_fits : (a : A) (h : Header) → header_of s ≡ Ok h → d s ≡ got a (h.start + h.len)
       → fit_of (on_got (d s) (λ a n. further n (join a) (rest a (drop n s)))) ≡ leftmost (after_in g s (header_of s))
-  next_fits a t h n ex eg =
+  next_fits a h ex eg =
+      let n = h.start + h.len in
       rw (ex, eg)
-      (fit_further (h + n) (join a) (rest a (drop (h + n) s)) ∙ ap (later (h + n)) (tails a (h + n) eg (drop (h + n) s))
-      ∙ sym (first_shift (h + n) (g (drop (h + n) s))))
+      (fit_further n (join a) (rest a (drop n s)) ∙ ap (later n) (tails a n eg (drop n s))
+      ∙ sym (first_shift n (g (drop n s))))
 
   pub next_finds : Finds (d s) (header_of s) (f s)
       → fit_of (on_got (d s) (λ a n. further n (join a) (rest a (drop n s)))) ≡ leftmost (then_faults f g s)
@@ -51,7 +52,7 @@ module _ {A B C : Type 0} (d : List ℕ → Got A) (f : List ℕ → List ℕ) (
     where
       go : (l : List ℕ) → Finds (d s) (header_of s) l
           → fit_of (on_got (d s) (λ a n. further n (join a) (rest a (drop n s)))) ≡ leftmost (l ++ after_in g s (header_of s))
-      go [] v = next_fits v.0 v.1 v.2 v.3 v.4 v.5
+      go [] v = next_fits v.0 v.1 v.2 v.3
       go (p ∷ l) v = rw v
 
 -- ── rows ──
@@ -143,18 +144,19 @@ module _ {A B C : Type 0} (d : List ℕ → Got A) (f : List ℕ → List ℕ) (
     abbrev tail : List ℕ → List ℕ → List ℕ
     tail s r = cond (pass (content_at s)) (g r) (g' r)
 
-    branch_fits : (s : List ℕ) (a : A) (t h n : ℕ) → header_of s ≡ Found t h n → d s ≡ got a (h + n)
+    branch_fits : (s : List ℕ) (a : A) (h : Header) → header_of s ≡ Ok h → d s ≡ got a (h.start + h.len)
         → fit_of (branch_dec d test d' d'' s) ≡ leftmost (after_in (tail s) s (header_of s))
     unfolding branch_dec
-    branch_fits s a t h n ex eg =
-        let i = same s a (h + n) eg in
-        let e : fit_of (branch_of (test a) a (h + n) d' d'' s) ≡ leftmost (shift (h + n) (tail s (drop (h + n) s))) = rw i (either_tail s a (h + n) (pass (content_at s))) in
-        ap (λ (o : Got A). fit_of (on_got o (λ a n. branch_of (test a) a n d' d'' s))) eg ∙ e ∙ sym (ap (λ (x : Header). leftmost (after_in (tail s) s x)) ex)
+    branch_fits s a h ex eg =
+        let n = h.start + h.len in
+        let i = same s a n eg in
+        let e : fit_of (branch_of (test a) a n d' d'' s) ≡ leftmost (shift n (tail s (drop n s))) = rw i (either_tail s a n (pass (content_at s))) in
+        ap (λ (o : Got A). fit_of (on_got o (λ a n. branch_of (test a) a n d' d'' s))) eg ∙ e ∙ sym (ap (λ (x : HeaderRead). leftmost (after_in (tail s) s x)) ex)
 
     pub depending_finds : (s : List ℕ) → fit_of (branch_dec d test d' d'' s) ≡ leftmost (then_faults f (tail s) s)
     unfolding then_faults fit_of leftmost
     depending_finds s = go (f s) (heads s)
       where
         go : (l : List ℕ) → Finds (d s) (header_of s) l → fit_of (branch_dec d test d' d'' s) ≡ leftmost (l ++ after_in (tail s) s (header_of s))
-        go [] v = branch_fits s v.0 v.1 v.2 v.3 v.4 v.5
+        go [] v = branch_fits s v.0 v.1 v.2 v.3
         go (p ∷ l) v = ap fit_of (branch_bad d test d' d'' s p v)

@@ -2,12 +2,13 @@
 -- least place of a fault, and it reads exactly if there is no fault.
 -- place_least, reads_none.
 -- Assumes nothing.
-use Rattle.std.specs.Prelude.{ℕ, ◌≡◌, refl, List, [], ◌↔◌, length}
+use Rattle.std.specs.Prelude.{ℕ, ◌≡◌, refl, List, [], ◌↔◌, length, Ok, Err}
 use Rattle.std.proofs.Common.{arith, sym, ◌∙◌}
 use Rattle.std.proofs.Math.Path.{ap}
 use Rattle.codec.specs.Codec.{Read, read, broke}
 use Rattle.codec.specs.Views.{fit_of}
-use Rattle.codec.specs.declared.Fit.TheVariants.{Fits, Breaks}
+use Rattle.element.specs.Places.{misfit}
+use Rattle.element.specs.PlacesLaws.{same_place}
 use Rattle.faults.specs.Description.{Line}
 use Rattle.faults.specs.Faults.{line_faults}
 use Rattle.faults.specs.Order.{leftmost, Least}
@@ -15,12 +16,12 @@ use Rattle.faults.proofs.OrderLaws.{first_least, least_first, first_none}
 use Rattle.faults.proofs.AscendLaws.{line_ascends}
 use Rattle.faults.specs.Placed.{Placed}
 
-broke_of : {A : Type 0} (o : Read A) (p : ℕ) → fit_of o ≡ Breaks p → o ≡ broke p
+broke_of : {A : Type 0} (o : Read A) (p : ℕ) → fit_of o ≡ Err (misfit p) → o ≡ broke p
 unfolding fit_of
-broke_of (broke q) p e = let i : q ≡ p = cc in ap broke i
+broke_of (broke q) p e = ap broke (same_place e)
 broke_of (read a) p e = let z : ◌≡◌ {A = ℕ} 0 1 = cc in absurd (omega arith)
 
-read_of : {A : Type 0} (o : Read A) → fit_of o ≡ Fits → (a : A) × (o ≡ read a)
+read_of : {A : Type 0} (o : Read A) → fit_of o ≡ Ok tt → (a : A) × (o ≡ read a)
 unfolding fit_of
 read_of (broke p) e = let z : ◌≡◌ {A = ℕ} 0 1 = cc in absurd (omega arith)
 read_of (read a) e = (a, refl)

@@ -6,10 +6,9 @@
 -- That they ascend is in AscendLaws, that a reading gives the first in PlacedLaws, and where a refused
 -- header is at fault in Head.
 -- Assumes nothing.
-use Rattle.std.specs.Prelude.{ℕ, zero, suc, ◌+◌, ◌-◌, Bool, true, false, cond, List, [], ◌∷◌, ◌++◌, eqb, length, take, drop}
+use Rattle.std.specs.Prelude.{ℕ, zero, suc, ◌+◌, ◌-◌, Bool, true, false, cond, List, [], ◌∷◌, ◌++◌, eqb, length, take, drop, Ok, Err}
 use Rattle.element.specs.Header.{header_of}
-use Rattle.element.specs.declared.Header.{Header}
-use Rattle.element.specs.declared.Header.TheVariants.{Found, Refused}
+use Rattle.element.specs.Places.{HeaderRead}
 use Rattle.codec.specs.Starts.{starts_with}
 use Rattle.codec.specs.Keys.{new_test}
 use Rattle.codec.specs.Tree.{constructed}
@@ -26,26 +25,26 @@ unless true = []
 unless false = 0 ∷ []
 
 -- the content of the element at the head
-abbrev pub content_in : List ℕ → Header → List ℕ
-content_in s (Found t h n) = take n (drop h s)
-content_in s (Refused p) = []
+abbrev pub content_in : List ℕ → HeaderRead → List ℕ
+content_in s (Ok h) = take h.len (drop h.start s)
+content_in s (Err p) = []
 
 unfoldable pub content_at : List ℕ → List ℕ
 content_at s = content_in s (header_of s)
 
 -- what follows it
-abbrev pub rest_in : List ℕ → Header → List ℕ
-rest_in s (Found t h n) = drop (h + n) s
-rest_in s (Refused p) = []
+abbrev pub rest_in : List ℕ → HeaderRead → List ℕ
+rest_in s (Ok h) = drop (h.start + h.len) s
+rest_in s (Err p) = []
 
 unfoldable pub rest_at : List ℕ → List ℕ
 rest_at s = rest_in s (header_of s)
 
 -- ── in a row ──
 -- the faults of what follows the element at the head
-abbrev pub after_in : (List ℕ → List ℕ) → List ℕ → Header → List ℕ
-after_in g s (Found t h n) = shift (h + n) (g (drop (h + n) s))
-after_in g s (Refused p) = []
+abbrev pub after_in : (List ℕ → List ℕ) → List ℕ → HeaderRead → List ℕ
+after_in g s (Ok h) = shift (h.start + h.len) (g (drop (h.start + h.len) s))
+after_in g s (Err p) = []
 
 -- those of the element at the head, then those of what follows it
 unfoldable pub then_faults : (List ℕ → List ℕ) → (List ℕ → List ℕ) → List ℕ → List ℕ
@@ -91,9 +90,9 @@ distinct_faults keys f seen lo (suc k) (x ∷ s) =
 
 -- ── of one element ──
 -- by its header: what f makes of the header's size and the content where the tag is the one wanted
-abbrev pub tagged_in : ℕ → (ℕ → List ℕ → List ℕ) → List ℕ → Header → List ℕ
-tagged_in u f s (Found t h n) = cond (eqb t u) (f h (take n (drop h s))) (0 ∷ [])
-tagged_in u f s (Refused p) = p ∷ []
+abbrev pub tagged_in : ℕ → (ℕ → List ℕ → List ℕ) → List ℕ → HeaderRead → List ℕ
+tagged_in u f s (Ok h) = cond (eqb h.tag u) (f h.start (take h.len (drop h.start s))) (0 ∷ [])
+tagged_in u f s (Err p) = p.place ∷ []
 
 unfoldable pub leaf_faults : ℕ → (List ℕ → Bool) → List ℕ → List ℕ
 leaf_faults u test s = tagged_in u (λ h c. unless (test c)) s (header_of s)
@@ -102,9 +101,9 @@ unfoldable pub around_faults : ℕ → (List ℕ → List ℕ) → List ℕ → 
 around_faults u g s = tagged_in u (λ h c. shift h (g c)) s (header_of s)
 
 -- any element, at most d deep; one beyond is at fault at its first octet, whatever it is
-abbrev pub free_in : (List ℕ → List ℕ) → List ℕ → Header → List ℕ
-free_in f s (Found t h n) = cond (constructed t) (shift h (any_faults f (take n (drop h s)))) []
-free_in f s (Refused p) = p ∷ []
+abbrev pub free_in : (List ℕ → List ℕ) → List ℕ → HeaderRead → List ℕ
+free_in f s (Ok h) = cond (constructed h.tag) (shift h.start (any_faults f (take h.len (drop h.start s)))) []
+free_in f s (Err p) = p.place ∷ []
 
 unfoldable pub free_faults : ℕ → List ℕ → List ℕ
 free_faults zero s = 0 ∷ []

@@ -1,9 +1,9 @@
 -- Places in ascending order, the first of them, and which are among them.
 -- Ascending, leftmost, Among, Least.
 -- Assumes nothing.
-use Rattle.std.specs.Prelude.{ℕ, ◌≤◌, ◌≡◌, List, [], ◌∷◌, ◌⊎◌}
-use Rattle.codec.specs.declared.Fit.{Fit}
-use Rattle.codec.specs.declared.Fit.TheVariants.{Fits, Breaks}
+use Rattle.std.specs.Prelude.{ℕ, ◌≤◌, ◌≡◌, List, [], ◌∷◌, ◌⊎◌, Ok, Err}
+use Rattle.element.specs.Places.{misfit}
+use Rattle.codec.specs.Steps.{Fit}
 
 -- from a up to b, none before the one to its left
 abbrev pub Ascending : ℕ → List ℕ → ℕ → Type 0
@@ -12,8 +12,8 @@ Ascending a (p ∷ l) b = (a ≤ p) × Ascending p l b
 
 -- the first, where there is one
 unfoldable pub leftmost : List ℕ → Fit
-leftmost [] = Fits
-leftmost (p ∷ l) = Breaks p
+leftmost [] = Ok tt
+leftmost (p ∷ l) = Err (misfit p)
 
 -- p is one of them
 abbrev pub Among : ℕ → List ℕ → Type 0

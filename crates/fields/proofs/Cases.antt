@@ -1,31 +1,24 @@
 -- What the code knows at each return, and the contract there.
--- fields_none, fields_cut, fields_whole; value_is, value_outside; card_parts; room_refused, room_short, room_enough.
+-- fields_whole; value_or; card_parts; room_refused, room_short, room_enough.
 -- Assumes nothing.
 use Prim.Native.Nat.{ℕ, ◌+◌, ◌-◌, ◌≤◌, ◌<◌}
 use native.Mathlib.Nat.{zero-add}
 use native.Mathlib.Omega.{arith}
-use mathlib.Core.Path.{◌≡◌, sym, ap, ◌∙◌}
+use mathlib.Core.Path.{◌≡◌, refl, sym, ap, ◌∙◌}
 use mathlib.Core.List.{List, ◌++◌, append-nil}
 use lib.ListN.{length, take, drop, replicate, length-drop}
 use lib.Seq.{length-take-le}
+use Rattle.std.specs.Prelude.{Option, Some, None, unwrap_or}
 use Rattle.octets.specs.Buffer.{put_in}
 use Rattle.octets.specs.BufferLaws.{put_in_room}
 use Rattle.octets.specs.Number.{number_at}
-use Rattle.octets.specs.declared.Number.{Number}
-use Rattle.octets.specs.declared.Number.TheVariants.{Is, Outside}
 use Rattle.fields.specs.declared.Output.TheVariants.{Octets, Refused}
 use Rattle.fields.specs.Field.{field_at, known, value_at, card_in}
-use Rattle.fields.specs.FieldLaws.{field_there, field_short}
+use Rattle.fields.specs.FieldLaws.{field_there}
 use Rattle.fields.specs.Output.{output_of}
 use Rattle.fields.specs.OutputLaws.{output_refused, output_short, output_written}
 
 -- ---- a hash
-
-pub fields_none : (s : List ℕ) (at : ℕ) → length s < at → replicate 20 0 ≡ field_at 20 s at
-fields_none s at h = sym (field_short 20 s at (omega arith))
-
-pub fields_cut : (s : List ℕ) (at : ℕ) → at ≤ length s → length s - at < 20 → replicate 20 0 ≡ field_at 20 s at
-fields_cut s at l h = sym (field_short 20 s at (omega arith))
 
 -- twenty octets put over twenty zeros
 put_over : (x : List ℕ) → length x ≡ 20 → put_in (replicate 20 0) 0 x ≡ x
@@ -34,10 +27,10 @@ put_over x e =
     ∙ ap (λ (k : ℕ). x ++ drop k (replicate 20 0)) (zero-add (length x) ∙ e)
     ∙ append-nil x
 
-pub fields_whole : (h : List ℕ) (s : List ℕ) (at end : ℕ) → end ≡ at + 20 → at ≤ length s → 20 ≤ length s - at
-    → h ≡ put_in (replicate 20 0) 0 (take (end - at) (drop at s)) → h ≡ field_at 20 s at
-fields_whole h s at end d l g e =
-    let k : end - at ≡ 20 = omega arith in
+pub fields_whole : (h : List ℕ) (s : List ℕ) (at : ℕ) → at ≤ length s → 20 ≤ length s - at
+    → h ≡ put_in (replicate 20 0) 0 (take (at + 20 - at) (drop at s)) → h ≡ field_at 20 s at
+fields_whole h s at l g e =
+    let k : at + 20 - at ≡ 20 = omega arith in
     e
     ∙ ap (λ (n : ℕ). put_in (replicate 20 0) 0 (take n (drop at s))) k
     ∙ put_over (take 20 (drop at s)) (length-take-le 20 (drop at s) (omega (arith, length-drop at s)))
@@ -45,13 +38,13 @@ fields_whole h s at end d l g e =
 
 -- ---- a number
 
-pub value_is : (s : List ℕ) (at w n : ℕ) (r : Number) → r ≡ number_at s at w → r ≡ Is n → n ≡ value_at s at w
+pub value_or : (s : List ℕ) (at w : ℕ) → unwrap_or (number_at s at w) 0 ≡ value_at s at w
 unfolding value_at
-value_is s at w n r e i = ap known (sym i ∙ e)
-
-pub value_outside : (s : List ℕ) (at w : ℕ) (r : Number) → r ≡ number_at s at w → r ≡ Outside → 0 ≡ value_at s at w
-unfolding value_at
-value_outside s at w r e i = ap known (sym i ∙ e)
+value_or s at w = go (number_at s at w)
+  where
+    go : (r : Option ℕ) → unwrap_or r 0 ≡ known r
+    go (Some n) = refl
+    go None = refl
 
 -- ---- a card
 

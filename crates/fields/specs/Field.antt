@@ -2,11 +2,9 @@
 -- field_at, known, value_at; card_in, card_fields. Their laws are in FieldLaws.
 -- A hash has n octets; the code uses n at 20.
 -- Assumes nothing.
-use Rattle.std.specs.Prelude.{ℕ, ◌+◌, cond, List, [], ◌∷◌, length, take, drop, replicate}
+use Rattle.std.specs.Prelude.{ℕ, ◌+◌, Option, Some, None, cond, List, [], ◌∷◌, length, take, drop, replicate}
 use Rattle.octets.specs.Buffer.{room_for}
 use Rattle.octets.specs.Number.{octets_of, number_at}
-use Rattle.octets.specs.declared.Number.{Number}
-use Rattle.octets.specs.declared.Number.TheVariants.{Is, Outside}
 use Rattle.answer.specs.declared.Card.{Card}
 
 -- the n octets at a place, or n zeros where they are not all there
@@ -14,9 +12,9 @@ unfoldable pub field_at : ℕ → List ℕ → ℕ → List ℕ
 field_at n s at = cond (room_for (length s) at n) (take n (drop at s)) (replicate n 0)
 
 -- a number that was looked for, 0 where it is not there
-abbrev pub known : Number → ℕ
-known (Is n) = n
-known Outside = 0
+abbrev pub known : Option ℕ → ℕ
+known (Some n) = n
+known None = 0
 
 -- the number of the w octets at a place, at most eight of them; 0 where they are not all there
 unfoldable pub value_at : List ℕ → ℕ → ℕ → ℕ

@@ -1,7 +1,7 @@
 -- Laws of writing: each answer exactly when it is due, and the buffer that goes with it.
 -- output_refused, output_short, output_written; kept_refused, kept_short, first_written.
 -- The definitions are in Output. Assumes nothing.
-use Rattle.std.specs.Prelude.{ℕ, ◌+◌, ◌≤◌, ◌<◌, ◌≡◌, List, ◌++◌, length, drop}
+use Rattle.std.specs.Prelude.{ℕ, ◌≤◌, ◌<◌, ◌≡◌, List, ◌++◌, length, drop}
 use Rattle.std.proofs.Common.{zero-add, arith, ap, ◌∙◌, ne_eqb, lt-ltb, le-ltb}
 use Rattle.octets.specs.BufferLaws.{put_in_room, put_in_short}
 use Rattle.fields.specs.declared.Output.TheVariants.{Octets, Refused}

@@ -10,24 +10,15 @@ ghost use Rattle.freshness.specs.Fresh.{fresh_of};
 
 // When it is: the time now, in seconds since 1970, and how many seconds past its nextUpdate an answer
 // still counts.
-#[derive(Clone, Copy)]
+#[derive(Clone, Copy, Debug, PartialEq, Eq)]
 pub struct Clock {
     pub now: u64,
     pub tolerance: u64,
 }
 
-// An entry's nextUpdate.
-#[derive(Clone, Copy)]
-pub enum Next {
-    At(u64),
-    Absent,
-}
-
-// Whether an answer counts, or the first rule that is missed, and by how many seconds.
-#[derive(Clone, Copy)]
-pub enum Freshness {
-    // It counts.
-    Fresh,
+// The first rule that is missed, and by how many seconds.
+#[derive(Clone, Copy, Debug, PartialEq, Eq)]
+pub enum Missed {
     // There is no nextUpdate (13).
     Endless,
     // nextUpdate is before thisUpdate (14).
@@ -38,39 +29,33 @@ pub enum Freshness {
     Late(u64),
 }
 
-// Judges thisUpdate and nextUpdate at a time, with a tolerance.
-pub fn judge_times(this: u64, next: Next, now: u64, tolerance: u64) -> Freshness
+// Judges thisUpdate and nextUpdate, if there is one, at a time, with a tolerance.
+#[tactic(auto, using(crate::proofs::Cases::judge_endless, crate::proofs::Cases::judge_reversed, crate::proofs::Cases::judge_late, crate::proofs::Cases::judge_tolerated))]
+pub fn judge_times(this: u64, next: Option<u64>, now: u64, tolerance: u64) -> Result<(), Missed>
     ensures { result ≡ fresh_of this next now tolerance }
 {
-    let Next::At(end) = next else {
-        return Freshness::Endless;
+    let Some(end) = next else {
+        return Err(Missed::Endless);
     };
     if end < this {
-        let missed = this - end;
-        return Freshness::Reversed(missed);
+        return Err(Missed::Reversed(this - end));
     }
     if now < this {
-        let missed = this - now;
-        return Freshness::Early(missed);
+        return Err(Missed::Early(this - now));
     }
     if now <= end {
-        return Freshness::Fresh;
+        return Ok(());
     }
-    let over = now - end;
-    if tolerance < over {
-        let last = end + tolerance;
-        let missed = now - last;
-        return Freshness::Late(missed);
+    if tolerance < now - end {
+        return Err(Missed::Late(now - (end + tolerance)));
     }
-    Freshness::Fresh
+    Ok(())
 }
 
 // Whether a time and a tolerance are in range (document 01, refusal 1).
+#[tactic(auto, using(crate::proofs::ClockCases::clock_fit, crate::proofs::ClockCases::clock_unfit))]
 pub fn clock_fits(clock: Clock) -> bool
     ensures { result ≡ clock_ok clock }
 {
-    if calendar::LAST_SECOND < clock.now {
-        return false;
-    }
-    clock.tolerance <= 3600
+    clock.now <= calendar::LAST_SECOND && clock.tolerance <= 3600
 }

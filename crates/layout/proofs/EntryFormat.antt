@@ -1,6 +1,6 @@
 -- The layout of an entry, as codecs, in the order and with the tags of source document 002, section
 -- 4.2.1, and with document 01's limits at each line.
--- algorithm_identifier, cert_id, certStatus, extensions, single_body. What they read is in Reading;
+-- algorithm_identifier, cert_id, cert_status, extensions, single_body. What they read is in Reading;
 -- elements by their tags are in ElementKinds; how the fields get their names is in Names; one extension is in
 -- ExtensionFormat. The response around the entries is in Format, which passes these names on.
 -- Assumes nothing.

@@ -1,7 +1,7 @@
 -- The layout of a response, as codecs, in the order and with the tags of source document 002, section
 -- 4.2.1, and with document 01's limits at each line. One field is not DER: the version may be written,
 -- though it has a default (document 02, C-12).
--- algorithm_identifier, cert_id, certStatus, extensions, single_body (in EntryFormat); single_response, responder_id,
+-- algorithm_identifier, cert_id, cert_status, extensions, single_body (in EntryFormat); single_response, responder_id,
 -- version, signed_fields, response_data, basic_response, envelope. What they read is in Reading; elements
 -- by their tags are in ElementKinds; how the fields get their names is in Names.
 -- Assumes nothing.
@@ -29,7 +29,7 @@ pub use Rattle.layout.proofs.EntryFormat.{reason_starts, good_starts, unknown_st
 unfoldable pub single_response : Element Entry
 single_response = sequence single_body
 
--- ResponderID ::= CHOICE { by_name [1] Name, by_key [2] an OCTET STRING of 20 }
+-- ResponderID ::= CHOICE { byName [1] Name, byKey [2] an OCTET STRING of 20 }
 unfoldable pub name_id : Element Tree
 name_id = one (only free_sequence)
 

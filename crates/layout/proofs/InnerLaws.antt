@@ -2,13 +2,12 @@
 -- than the response.
 -- string_last, string_short, string_read.
 -- Assumes nothing.
-use Rattle.std.specs.Prelude.{ℕ, ◌≤◌, ◌≡◌, refl, Bool, true, false, cond, List, [], ◌++◌, ◌⊎◌, eqb, length, take, drop}
+use Rattle.std.specs.Prelude.{ℕ, ◌≤◌, ◌≡◌, refl, Bool, true, false, cond, List, [], ◌++◌, ◌⊎◌, eqb, length, take, drop, Ok, Err}
 use Rattle.std.proofs.Common.{arith, sym, ap, ◌∙◌, append_assoc, inl, inr, length-append, length-take, length-drop}
 use Rattle.std.proofs.Math.Option.{none, some}
 use Rattle.element.specs.Form.{head_form, form_of}
 use Rattle.element.specs.Header.{header_of}
-use Rattle.element.specs.declared.Header.{Header}
-use Rattle.element.specs.declared.Header.TheVariants.{Found, Refused}
+use Rattle.element.specs.Places.{HeaderRead}
 use Rattle.codec.specs.Codec.{Read, read, Got, got}
 use Rattle.codec.proofs.Outcome.{broke_read, bad_got, further_read, renamed_read, on_got_read, attach_got, tested_got}
 use Rattle.codec.specs.Contents.{octets_read, filled_dec}
@@ -64,13 +63,13 @@ small_tagged : {A : Type 0} (size : A → ℕ) (at : ℕ → ℕ → ℕ) (t : �
 unfolding tagged_dec
 small_tagged size at t d k s a n q = go (header_of s) q
   where
-    go : (x : Header) → tagged_of at t d s x ≡ got a n → size a ≤ length s
-    go (Refused p) q = bad_got q
-    go (Found u h m) q =
-        let v = tested_got (eqb u t) _ 0 a n q in
-        let c = take m (drop h s) in
-        let i = k c a (attach_got (at h) _ (d c) a n v.1).0 in
-        omega (arith, length-take m (drop h s), length-drop h s)
+    go : (x : HeaderRead) → tagged_of at t d s x ≡ got a n → size a ≤ length s
+    go (Err p) q = bad_got q
+    go (Ok h) q =
+        let v = tested_got (eqb h.tag t) _ 0 a n q in
+        let c = take h.len (drop h.start s) in
+        let i = k c a (attach_got (at h.start) _ (d c) a n v.1).0 in
+        omega (arith, length-take h.len (drop h.start s), length-drop h.start s)
 
 small_field : {A B : Type 0} (size : A × B → ℕ) (d : List ℕ → Got A) (d' : List ℕ → Read B) → ((a : A) → Small (λ b. size (a, b)) d')
     → Small size (field_dec d d')

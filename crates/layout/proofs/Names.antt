@@ -12,7 +12,7 @@ use Rattle.codec.proofs.Sequence.{end}
 use Rattle.codec.proofs.Mapped.{mapped, mapped_ok, mapped_element}
 use Rattle.codec.specs.Tree.{Tree}
 use Rattle.layout.specs.Reading.{Algorithm, CertId, Status, good, revoked, unknown, Extension, Entry, Responder, by_name, by_key, Signed, Basic}
-use Rattle.layout.specs.Names.{Envelope, EnvelopeParts, ExtensionParts, SignedParts, StatusParts, algorithm, cert, envelope_of, envelope_parts, extension_of, extension_parts, failure, is_there, responder_of, responder_parts, signed_from, signed_parts, status_from, status_parts, succeeds, success, there}
+use Rattle.layout.specs.Names.{Envelope, EnvelopeParts, ExtensionParts, SignedParts, StatusParts, envelope_of, envelope_parts, extension_of, extension_parts, failure, is_there, responder_of, responder_parts, signed_from, signed_parts, status_from, status_parts, succeeds, success, there}
 
 pub status_named : (s : Status) → status_from (status_parts s) ≡ s
 status_named good = refl

@@ -3,7 +3,7 @@
 -- time_read, time_content; serial_read, serial_content. The other contents are in Words.
 -- The laws stand here, and what is made of them; the definitions in specs/Numbers.
 -- Assumes nothing.
-use Rattle.std.specs.Prelude.{ℕ, ◌<◌, ◌≤◌, ◌^◌, ◌≡◌, refl, Bool, true, false, cond, List}
+use Rattle.std.specs.Prelude.{ℕ, ◌<◌, ◌≤◌, ◌^◌, ◌≡◌, refl, Bool, true, false, cond, List, Option, Some, None}
 use Rattle.std.proofs.Common.{arith, ap}
 use Rattle.std.proofs.Math.Option.{none, some}
 use Rattle.octets.specs.Octets.{Octets}
@@ -13,8 +13,6 @@ use Rattle.content.specs.Serial.{serial_ok, serial_form}
 use Rattle.content.specs.SerialLaws.{serial_sound, serial_complete}
 use Rattle.calendar.specs.Time.{last_second, time_of, time_form}
 use Rattle.calendar.specs.TimeLaws.{time_sound, time_complete, time_octets}
-use Rattle.calendar.specs.declared.Time.{Time}
-use Rattle.calendar.specs.declared.Time.TheVariants.{At, No}
 use Rattle.codec.specs.Codec.{Content}
 use Rattle.layout.specs.Numbers.{seconds_in, serial_read, time_read}
 
@@ -26,13 +24,13 @@ pub passed : {A : Type 0} (b : Bool) (x a : A) → cond b (some x) none ≡ some
 passed true x a e = (refl, cc)
 passed false x a e = none_some e
 
-pub time_read_lem : (c : List ℕ) (n : ℕ) → time_read c ≡ some n → time_of c ≡ At n
+pub time_read_lem : (c : List ℕ) (n : ℕ) → time_read c ≡ some n → time_of c ≡ Some n
 unfolding time_read
 time_read_lem c n e = go (time_of c) e
   where
-    go : (t : Time) → seconds_in t ≡ some n → t ≡ At n
-    go (At m) e = let i : m ≡ n = cc in ap At i
-    go No e = none_some e
+    go : (t : Option ℕ) → seconds_in t ≡ some n → t ≡ Some n
+    go (Some m) e = let i : m ≡ n = cc in ap Some i
+    go None e = none_some e
 
 pub time_full : (n : ℕ) → n ≤ last_second → time_read (time_form n) ≡ some n
 unfolding time_read

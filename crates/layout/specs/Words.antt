@@ -3,7 +3,7 @@
 -- reason_ok, status_ok.
 -- The definitions stand here; the laws, and what is made of them, in proofs/Words.
 -- Assumes nothing.
-use Rattle.std.specs.Prelude.{ℕ, ◌<◌, Bool, true, false, cond, leb, eqb, length}
+use Rattle.std.specs.Prelude.{ℕ, Bool, true, false, cond, leb, eqb, length}
 use Rattle.std.proofs.Common.{lit<}
 use mathlib.Core.List.{List, [], ◌∷◌}
 use Rattle.std.proofs.Math.Option.{Option, none, some}

@@ -2,50 +2,34 @@
 // it must write is in the file stdout.
 #![tactic(auto)]
 
+use element::Header;
 use std::io;
 
 fn say(rt: &impl Print, text: &str) -> io::Result<()> {
     print!(rt; "{text}")
 }
 
-fn say_octet(rt: &impl Print, x: u8) -> io::Result<()> {
-    print!(rt; "{x:02x}")
-}
-
-fn say_number(rt: &impl Print, n: u64) -> io::Result<()> {
-    print!(rt; "{n}")
-}
-
 // The seconds of a time, or that it is none.
 fn say_time(rt: &impl Print, name: &str, text: &[u8]) -> io::Result<()> {
     say(rt, name)?;
-    let t = calendar::read_time(text);
-    match t {
-        calendar::Time::At(n) => {
-            say_number(rt, n)?;
-        }
-        calendar::Time::No => say(rt, "no time")?,
+    match calendar::read_time(text) {
+        Some(seconds) => println!(rt; "{seconds}"),
+        None => println!(rt; "no time"),
     }
-    say(rt, "\n")
 }
 
 // The octets of a length, as a header of tag 30 hex has them.
 fn say_length(rt: &impl Print, name: &str, len: usize) -> io::Result<()> {
     say(rt, name)?;
     let mut out = [0u8; 4];
-    let w = element::put_header(&mut out, 0, 0x30, len);
-    match w {
-        element::Formed::Next(end) => {
-            say_octet(rt, out[1])?;
-            if 2 < end {
-                say_octet(rt, out[2])?;
-            }
-            if 3 < end {
-                say_octet(rt, out[3])?;
+    match element::put_header(&mut out, 0, 0x30, len) {
+        Ok(end) => {
+            for octet in out.iter().take(end).skip(1) {
+                print!(rt; "{octet:02x}")?;
             }
         }
-        element::Formed::Short => say(rt, "no room")?,
-        element::Formed::NoTag => say(rt, "no tag")?,
+        Err(element::Unformed::Short) => say(rt, "no room")?,
+        Err(element::Unformed::NoTag) => say(rt, "no tag")?,
     }
     say(rt, "\n")
 }
@@ -53,38 +37,22 @@ fn say_length(rt: &impl Print, name: &str, len: usize) -> io::Result<()> {
 // What the header of a part says.
 fn say_header(rt: &impl Print, name: &str, part: &[u8]) -> io::Result<()> {
     say(rt, name)?;
-    let h = element::read_header(part);
-    match h {
-        element::Header::Found { tag, start, len } => {
-            say_octet(rt, tag)?;
-            say(rt, " content at ")?;
-            say_number(rt, start as u64)?;
-            say(rt, ", size ")?;
-            say_number(rt, len as u64)?;
-        }
-        element::Header::Refused(p) => {
-            say(rt, "refused at ")?;
-            say_number(rt, p as u64)?;
-        }
+    match element::read_header(part) {
+        Ok(Header { tag, start, len }) => println!(rt; "{tag:02x} content at {start}, size {len}"),
+        Err(misfit) => println!(rt; "refused at {}", misfit.place),
     }
-    say(rt, "\n")
 }
 
 // The number of a serial, or that it is refused.
 fn say_serial(rt: &impl Print, name: &str, serial: &[u8]) -> io::Result<()> {
     say(rt, name)?;
-    if content::serial_fits(serial) {
-        let n = octets::number_at(serial, 0, serial.len());
-        match n {
-            octets::Number::Is(v) => {
-                say_number(rt, v)?;
-            }
-            octets::Number::Outside => say(rt, "more than eight octets")?,
-        }
-    } else {
-        say(rt, "refused")?;
+    if !content::serial_fits(serial) {
+        return println!(rt; "refused");
     }
-    say(rt, "\n")
+    match octets::number_at(serial, 0, serial.len()) {
+        Some(number) => println!(rt; "{number}"),
+        None => println!(rt; "more than eight octets"),
+    }
 }
 
 fn main(rt: HostRuntime) -> io::Result<()> {

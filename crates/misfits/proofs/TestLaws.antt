@@ -1,14 +1,12 @@
 -- The contents of the layout are read exactly where the tests of the description pass.
 -- time_finds, serial_finds, bits_finds, single_finds; zero_content.
 -- Assumes nothing.
-use Rattle.std.specs.Prelude.{ℕ, ◌≡◌, refl, Bool, true, false, cond, List, [], ◌∷◌, eqb}
+use Rattle.std.specs.Prelude.{ℕ, ◌≡◌, refl, Bool, true, false, cond, List, [], ◌∷◌, Option, Some, None, eqb}
 use Rattle.std.proofs.Math.Option.{none, some}
 use Rattle.octets.specs.Number.{value_of}
 use Rattle.octets.specs.Same.{same_of}
 use Rattle.content.specs.Serial.{serial_ok}
 use Rattle.calendar.specs.Time.{time_of, is_time}
-use Rattle.calendar.specs.declared.Time.{Time}
-use Rattle.calendar.specs.declared.Time.TheVariants.{At, No}
 use Rattle.codec.specs.Codec.{read}
 use Rattle.codec.proofs.Outcome.{broke_read}
 use Rattle.codec.specs.Contents.{filled_dec, or_start}
@@ -25,9 +23,9 @@ pub time_finds : WholeFinds (filled_dec time_read) (λ c. unless (time_ok c))
 unfolding filled_dec time_read is_time fit_of leftmost
 time_finds c = go (time_of c)
   where
-    go : (t : Time) → fit_of (or_start (seconds_in t)) ≡ leftmost (unless (is_time t))
-    go (At n) = refl
-    go No = refl
+    go : (t : Option ℕ) → fit_of (or_start (seconds_in t)) ≡ leftmost (unless (is_time t))
+    go (Some n) = refl
+    go None = refl
 
 pub serial_finds : WholeFinds (filled_dec serial_read) (λ c. unless (serial_ok c))
 unfolding filled_dec serial_read

@@ -3,12 +3,13 @@
 -- fit_read; reading_first, misfits_ascend; place_least, fits_none.
 -- The laws stand here, and what is made of them; the definitions in specs/Theorem.
 -- Assumes nothing.
-use Rattle.std.specs.Prelude.{ℕ, ◌+◌, ◌-◌, ◌≡◌, refl, Bool, true, false, cond, List, [], ◌∷◌, ◌↔◌, length}
+use Rattle.std.specs.Prelude.{ℕ, ◌+◌, ◌-◌, ◌≡◌, refl, Bool, true, false, cond, List, [], ◌∷◌, ◌↔◌, length, Ok, Err}
 use Rattle.std.proofs.Common.{arith, sym, ap, ◌∙◌}
 use Rattle.octets.specs.Same.{same_of}
+use Rattle.element.specs.Places.{misfit}
+use Rattle.element.specs.PlacesLaws.{same_place}
 use Rattle.codec.specs.Codec.{Read, read, broke}
 use Rattle.codec.specs.Views.{fit_of, later}
-use Rattle.codec.specs.declared.Fit.TheVariants.{Fits, Breaks}
 use Rattle.layout.specs.Reading.{Basic}
 use Rattle.layout.specs.Names.{Envelope, failure, success}
 use Rattle.layout.proofs.Format as format
@@ -47,17 +48,17 @@ string_first s t c (z, et, ec) = rw (z, et, ec) (go (same_of t basic_type))
     go true = inner_first (length s - length c) c
     go false = refl
 
-status_first : (s : List ℕ) (n : ℕ) → Stands s (failure n) → Fits ≡ leftmost (inner_misfits s)
+status_first : (s : List ℕ) (n : ℕ) → Stands s (failure n) → Ok tt ≡ leftmost (inner_misfits s)
 unfolding inner_misfits leftmost
 status_first s n z = rw z
 
 -- ── the envelope before it ──
-else_none : (l k : List ℕ) → Fits ≡ leftmost l → leftmost (or_else l k) ≡ leftmost k
+else_none : (l k : List ℕ) → Ok tt ≡ leftmost l → leftmost (or_else l k) ≡ leftmost k
 unfolding leftmost
 else_none [] k e = refl
 else_none (p ∷ l) k e = let z : ◌≡◌ {A = ℕ} 0 1 = cc in absurd (omega arith)
 
-else_some : (l k : List ℕ) (p : ℕ) → Breaks p ≡ leftmost l → Breaks p ≡ leftmost (or_else l k)
+else_some : (l k : List ℕ) (p : ℕ) → Err (misfit p) ≡ leftmost l → Err (misfit p) ≡ leftmost (or_else l k)
 unfolding leftmost
 else_some [] k p e = let z : ◌≡◌ {A = ℕ} 0 1 = cc in absurd (omega arith)
 else_some (q ∷ l) k p e = e
@@ -103,10 +104,10 @@ misfits_ascend s = go (line_faults envelope_line s) (line_ascends envelope_line 
     go [] h = inner_ascend s
     go (p ∷ l) h = (length s, h)
 
-place_unfit : (o : Outcome) (p : ℕ) → fit_read o ≡ Breaks p → o ≡ unfit p
+place_unfit : (o : Outcome) (p : ℕ) → fit_read o ≡ Err (misfit p) → o ≡ unfit p
 place_unfit (reads r) p e = let z : ◌≡◌ {A = ℕ} 0 1 = cc in absurd (omega arith)
 place_unfit other_type p e = let z : ◌≡◌ {A = ℕ} 0 1 = cc in absurd (omega arith)
-place_unfit (unfit q) p e = let i : q ≡ p = cc in ap unfit i
+place_unfit (unfit q) p e = ap unfit (same_place e)
 
 -- a response does not fit, at this place, exactly if this is the least of its misfits
 pub place_least : (s : List ℕ) (p : ℕ) → (reading s ≡ unfit p) ↔ Least p (misfits s)

@@ -63,7 +63,7 @@ unfoldable pub single_item : Item
 single_item =
     sequence_item (then cert_id_item (then status_item (then time_item (perhaps 0xa0 (around 0xa0 (only_line time_item)) (perhaps 0xa1 extensions_item nothing)))))
 
--- ResponderID ::= CHOICE { by_name [1] Name, by_key [2] an OCTET STRING of 20 }
+-- ResponderID ::= CHOICE { byName [1] Name, byKey [2] an OCTET STRING of 20 }
 unfoldable pub responder_item : Item
 responder_item = either 0xa1 (around 0xa1 (only_line (free_with 0x30 16))) (around 0xa2 (only_line (string_item (between 20 20))))
 

@@ -1,22 +1,25 @@
 -- Eight octets at a place as one number, and two lists compared by such numbers.
--- weights, eight_low, eight_high; eight_past, eight_short, eight_is; eights_next, eights_differ, eights_end.
+-- weights, eight_low, eight_high; eight_is; same_few; eights_next, eights_differ, eights_end.
 -- Assumes nothing.
 use Prim.Native.Nat.{ℕ, zero, suc, ◌+◌, ◌-◌, ◌*◌, ◌≤◌, ◌<◌}
 use native.Mathlib.Nat.{add-zero}
 use native.Mathlib.Omega.{arith}
 use mathlib.Core.Path.{◌≡◌, refl, sym, ap, ap₂, ◌∙◌}
-use mathlib.Core.Bool.{Bool, true, false}
+use mathlib.Core.Bool.{Bool, true, false, cond, ◌&&◌}
 use mathlib.Core.List.{List, [], ◌∷◌}
+use lib.Dec.{eqb}
+use lib.Pointwise.{pointwise}
 use lib.ListN.{length, get_or, take, drop, length-drop}
 use lib.Seq.{get_or-drop, drop-drop, length-take-le, take_all}
 use mir.Syntax.{w8}
 use mir.Val.{Fits}
 use borrow.Author.Tests.{eq-eqb}
+use Rattle.std.proofs.lemmas.Bool.{eqb-true, eqb-false}
+use Rattle.std.specs.Prelude.{nat_eq, Some}
 use Rattle.octets.specs.Octets.{Octets}
 use Rattle.octets.specs.OctetsLaws.{octets_from, octets_take, octets_drop}
 use Rattle.octets.specs.Number.{value_of, number_at, low_first}
-use Rattle.octets.specs.NumberLaws.{number_outside, number_inside}
-use Rattle.octets.specs.declared.Number.TheVariants.{Is, Outside}
+use Rattle.octets.specs.NumberLaws.{number_inside}
 use Rattle.octets.specs.Same.{same_of}
 use Rattle.octets.specs.SameLaws.{same_true, same_refl}
 
@@ -78,16 +81,22 @@ module _ (s : List ℕ) (at : ℕ) (h : at + 8 ≤ length s) where
 
 -- a number of eight octets, as code knows it
 module _ (s : List ℕ) (at w : ℕ) (e : w ≡ 8) where
-  pub eight_past : length s < at → Outside ≡ number_at s at w
-  eight_past h = sym (number_outside s at w (omega arith))
-
-  pub eight_short : length s - at < 8 → Outside ≡ number_at s at w
-  eight_short h = sym (number_outside s at w (omega arith))
-
-  pub eight_is : at ≤ length s → 8 ≤ length s - at → (n : ℕ) → n ≡ value_of (take 8 (drop at s)) → Is n ≡ number_at s at w
-  eight_is h g n q = ap Is (q ∙ ap (λ (k : ℕ). value_of (take k (drop at s))) (sym e)) ∙ sym (number_inside s at w (omega arith) (omega arith))
+  pub eight_is : at ≤ length s → 8 ≤ length s - at → (n : ℕ) → n ≡ value_of (take 8 (drop at s)) → Some n ≡ number_at s at w
+  eight_is h g n q = ap Some (q ∙ ap (λ (k : ℕ). value_of (take k (drop at s))) (sym e)) ∙ sym (number_inside s at w (omega arith) (omega arith))
 
 -- ---- two lists compared
+
+-- few octets: the library's comparing gives the same answer
+pub same_few : (a b : List ℕ) → pointwise nat_eq a b ≡ same_of a b
+unfolding same_of
+same_few [] [] = refl
+same_few [] (y ∷ t) = refl
+same_few (x ∷ s) [] = refl
+same_few (x ∷ s) (y ∷ t) = go (eqb x y) (same_few s t)
+  where
+    go : (u : Bool) → pointwise nat_eq s t ≡ same_of s t → (u && pointwise nat_eq s t) ≡ cond u (same_of s t) false
+    go true p = p
+    go false p = refl
 
 -- octets with one number and one length are one list
 one_list : (s t : List ℕ) → Octets s → Octets t → length s ≡ length t → low_first s ≡ low_first t → s ≡ t
@@ -139,11 +148,11 @@ module _ (a b : List ℕ) (i x y : ℕ) (u : x ≡ low_first (take 8 (drop i a))
       go false e = refl
       go true e = absurd (n (u ∙ ap (λ (l : List ℕ). low_first (take 8 (drop i l))) (same_true a b e) ∙ sym v))
 
--- what is left has eight octets at most, and the last eight are equal
+-- what is left has eight octets at most: the last eight decide
 module _ (a b : List ℕ) (x y : ℕ) (u : x ≡ low_first (take 8 (drop (length a - 8) a))) (v : y ≡ low_first (take 8 (drop (length a - 8) b))) where
-  pub eights_end : ((j : ℕ) → Fits w8 (get_or a j 0)) → ((j : ℕ) → Fits w8 (get_or b j 0)) → length a ≡ length b → x ≡ y
+  all_same : ((j : ℕ) → Fits w8 (get_or a j 0)) → ((j : ℕ) → Fits w8 (get_or b j 0)) → length a ≡ length b → x ≡ y
       → (i : ℕ) → (i ≤ length a) × (same_of a b ≡ same_of (drop i a) (drop i b)) → length a - 8 ≤ i → 8 ≤ length a → true ≡ same_of a b
-  eights_end k m q e i p l h =
+  all_same k m q e i p l h =
       let o = eights_same a b (length a - 8) x y u v k m q e (omega arith) in
       let f = take_all 8 (drop (length a - 8) a) (omega (arith, length-drop (length a - 8) a)) in
       let g = take_all 8 (drop (length a - 8) b) (omega (arith, length-drop (length a - 8) b)) in
@@ -155,3 +164,11 @@ module _ (a b : List ℕ) (x y : ℕ) (u : x ≡ low_first (take 8 (drop (length
       ∙ drop-drop (i - (length a - 8)) (length a - 8) b
       ∙ ap (λ (t : ℕ). drop t b) n in
       sym (p.1 ∙ ap (λ (t : List ℕ). same_of t (drop i b)) d ∙ same_refl (drop i b))
+
+  pub eights_end : ((j : ℕ) → Fits w8 (get_or a j 0)) → ((j : ℕ) → Fits w8 (get_or b j 0)) → length a ≡ length b
+      → (i : ℕ) → (i ≤ length a) × (same_of a b ≡ same_of (drop i a) (drop i b)) → length a - 8 ≤ i → 8 ≤ length a → eqb x y ≡ same_of a b
+  eights_end k m q i p l h = go (eqb x y) refl
+    where
+      go : (r : Bool) → eqb x y ≡ r → r ≡ same_of a b
+      go true e = all_same k m q (eqb-true x y e) i p l h
+      go false e = eights_differ a b (length a - 8) x y u v (eqb-false x y e)

@@ -1,63 +1,34 @@
 -- What one turn of each loop does, on plain values. Each law's premises are what the code knows there.
--- same_next, same_stop, same_end; put_next, put_end; number_room, number_less, number_next, number_end;
+-- put_all; number_room, number_less, number_next, number_end;
 -- written, written_all, written_left, written_next, written_end.
 -- Assumes nothing.
 use Prim.Native.Nat.{ℕ, zero, suc, ◌+◌, ◌-◌, ◌*◌, ◌/◌, ◌%◌, ◌^◌, ◌≤◌, ◌<◌}
-use native.Mathlib.Nat.{not-suc-le-zero, sub-zero, le_of_lt, le_antisymm, add-zero, sub_self, pow-le-pow_right, pow-suc, div-div-eq-div-mul}
+use native.Mathlib.Nat.{not-suc-le-zero, sub-zero, le_of_lt, le-add_right, add-zero, sub_self, pow-le-pow_right, pow-suc, div-div-eq-div-mul}
 use native.Mathlib.Numerals.{add-one}
 use native.Mathlib.Omega.{arith}
 use mathlib.Core.Path.{◌≡◌, sym, ap, subst, ◌∙◌}
-use mathlib.Core.Bool.{true, false, cond}
-use mathlib.Core.List.{List, ◌∷◌, ◌++◌, append_assoc}
+use mathlib.Core.List.{List, ◌∷◌, ◌++◌}
 use lib.Arith.{digits_lt}
-use lib.Dec.{eqb, lit<}
-use lib.ListN.{length, get_or, set, take, drop, drop_of_length-le, take-append-drop, length-drop}
-use lib.Seq.{drop-cons, take-suc, get_or-drop, paste, paste-suc, take-length, append_snoc, set_at, length-take-le}
-use borrow.Author.Tests.{eq-eqb, ne_eqb}
-use Rattle.octets.specs.declared.Number.TheVariants.{Is}
+use lib.Dec.{lit<}
+use lib.ListN.{length, get_or, set, take, drop, take-append-drop}
+use lib.Seq.{take-suc, take_all, append_snoc, set_at, length-take-le}
+use borrow.Rule.Slice.PartMut.{put_mid, Post-is}
+use Rattle.std.specs.Prelude.{Some}
+use Rattle.octets.specs.LentLaws.{part_is}
 use Rattle.octets.specs.Number.{value_of, octets_of, number_at}
 use Rattle.octets.specs.NumberLaws.{value_snoc, octets_length, number_inside}
-use Rattle.octets.specs.Same.{same_of}
 use Rattle.octets.specs.Buffer.{put_in}
 use Rattle.octets.specs.BufferLaws.{put_in_room}
 
--- ---- two lists are compared: the answer is that of the rest
+-- ---- octets are copied
 
-module _ (a b : List ℕ) (q : length a ≡ length b) (i : ℕ) (p : same_of a b ≡ same_of (drop i a) (drop i b)) where
-  step : i < length a → same_of a b ≡ cond (eqb (get_or a i 0) (get_or b i 0)) (same_of (drop (i + 1) a) (drop (i + 1) b)) false
-  unfolding same_of
-  step h =
-      let g : i < length b = omega arith in
-      p ∙ rw (add-one i, drop-cons a i 0 h, drop-cons b i 0 g)
-
-  -- equal here
-  pub same_next : i < length a → get_or a i 0 ≡ get_or b i 0 → same_of a b ≡ same_of (drop (i + 1) a) (drop (i + 1) b)
-  same_next h e = step h ∙ rw (eq-eqb (get_or a i 0) (get_or b i 0) e)
-
-  -- another here
-  pub same_stop : i < length a → (get_or a i 0 ≡ get_or b i 0 → ⊥) → false ≡ same_of a b
-  same_stop h e = sym (step h ∙ rw (ne_eqb (get_or a i 0) (get_or b i 0) e))
-
-  -- at the end of both
-  pub same_end : length a ≤ i → true ≡ same_of a b
-  unfolding same_of
-  same_end h =
-      let g : length b ≤ i = omega arith in
-      sym (p ∙ rw (drop_of_length-le a h, drop_of_length-le b g))
-
--- ---- octets are copied: i of them so far
-
-module _ (out : List ℕ) (at : ℕ) (src : List ℕ) (l : at ≤ length out) (r : length src ≤ length out - at) (o : List ℕ) (i : ℕ) (p : o ≡ paste out at src i) where
-  pub put_next : i < length src → set o (at + i) (get_or src i 0) ≡ paste out at src (i + 1)
-  put_next h = rw (p, add-one i) (paste-suc out at src i 0 (omega arith) h)
-
-  pub put_end : i ≤ length src → length src ≤ i → o ≡ put_in out at src
-  put_end h g =
-      p
-      ∙ ap (λ (k : ℕ). paste out at src k) (le_antisymm h g)
-      ∙ ap (λ (t : List ℕ). take at out ++ t ++ drop (at + length src) out) (take-length src)
-      ∙ append_assoc (take at out) src (drop (at + length src) out)
-      ∙ sym (put_in_room out at src (omega arith))
+-- the part at a place gives way to octets as many as it has
+pub put_all : (out : List ℕ) (at : ℕ) (src new : List ℕ) → at ≤ length out → length src ≤ length out - at → new ≡ src
+    → put_mid at (at + length src - at) out new ≡ put_in out at src
+put_all out at src new l r e =
+    ap (λ (t : List ℕ). put_mid at (at + length src - at) out t) e
+    ∙ ap (λ (t : List ℕ). take at out ++ (src ++ t)) (Post-is at (at + length src) out (le-add_right at (length src)))
+    ∙ sym (put_in_room out at src (omega arith))
 
 -- ---- a number is read: n is that of the first i octets
 
@@ -71,20 +42,17 @@ number_room n i w h l m =
 pub number_less : (n i x : ℕ) → n < 256 ^ i → x < 256 → n * 256 + x < 256 ^ (i + 1)
 number_less n i x h l = subst (λ (b : ℕ). n * 256 + x < b) (sym (ap (λ (k : ℕ). 256 ^ k) (add-one i) ∙ pow-suc 256 i)) (digits_lt h l)
 
-module _ (s : List ℕ) (at w : ℕ) (m : w ≤ 8) (l : at ≤ length s) (r : w ≤ length s - at) (n i : ℕ) (p : n ≡ value_of (take i (drop at s))) where
-  pub number_next : i < w → n * 256 + get_or s (at + i) 0 ≡ value_of (take (i + 1) (drop at s))
-  number_next h =
-      let g : i < length (drop at s) = subst (λ (k : ℕ). i < k) (sym (length-drop at s)) (omega arith) in
-      ap (λ (k : ℕ). k * 256 + get_or s (at + i) 0) p
-      ∙ sym
-      (ap (λ (k : ℕ). value_of (take k (drop at s))) (add-one i)
-      ∙ ap value_of (take-suc (drop at s) i 0 g)
-      ∙ value_snoc (take i (drop at s)) (get_or (drop at s) i 0)
-      ∙ ap (λ (x : ℕ). value_of (take i (drop at s)) * 256 + x) (get_or-drop at s i 0))
+-- one more octet
+pub number_next : (t : List ℕ) (n i : ℕ) → n ≡ value_of (take i t) → i < length t → n * 256 + get_or t i 0 ≡ value_of (take (i + 1) t)
+number_next t n i p h =
+    ap (λ (k : ℕ). k * 256 + get_or t i 0) p
+    ∙ sym (ap (λ (k : ℕ). value_of (take k t)) (add-one i) ∙ ap value_of (take-suc t i 0 h) ∙ value_snoc (take i t) (get_or t i 0))
 
-  pub number_end : i ≤ w → w ≤ i → Is n ≡ number_at s at w
-  number_end h g =
-      ap Is (p ∙ ap (λ (k : ℕ). value_of (take k (drop at s))) (le_antisymm h g)) ∙ sym (number_inside s at w m (omega arith))
+-- all of them
+pub number_end : (s : List ℕ) (at w n i : ℕ) → w ≤ 8 → at ≤ length s → w ≤ length s - at
+    → n ≡ value_of (take i (take (at + w - at) (drop at s))) → length (take (at + w - at) (drop at s)) ≤ i → Some n ≡ number_at s at w
+number_end s at w n i m l r p h =
+    ap Some (p ∙ ap value_of (take_all i (take (at + w - at) (drop at s)) h ∙ part_is at w s)) ∙ sym (number_inside s at w m (omega arith))
 
 -- ---- a number is written, its last octet first: i octets are not written yet
 

@@ -2,14 +2,13 @@
 -- room_le, room_lt and back room_true; splice_length, splice_nil, splice_take, splice_front,
 -- splice_drop, splice_splice; put_in_room, put_in_short, put_in_length; put_answer_room, put_answer_short.
 -- The definitions are in Buffer. Assumes nothing.
-use Rattle.std.specs.Prelude.{ℕ, ◌+◌, ◌-◌, ◌≤◌, ◌<◌, ◌≡◌, Bool, cond, List, [], ◌++◌, leb, take, drop}
+use Rattle.std.specs.Prelude.{ℕ, ◌+◌, ◌-◌, ◌≤◌, ◌<◌, ◌≡◌, Bool, cond, List, [], ◌++◌, Some, None, leb, take, drop}
 use Rattle.std.proofs.Common.{add_assoc, add-zero, arith, sym, ap, ap₂, subst, ◌∙◌, append_assoc, length-append, length-drop, take-append-drop, length-take-le, take_at, drop_at, take-take, drop-drop, leb-true, le-leb}
 use Rattle.std.proofs.Math.Path.{refl}
 use Rattle.std.proofs.Math.Bool.{true, false}
 use Rattle.std.proofs.Math.ListN.{length}
 use Rattle.std.proofs.lemmas.List.{take-append-le}
 use Rattle.std.proofs.lemmas.Bool.{lt-leb}
-use Rattle.octets.specs.declared.Written.TheVariants.{Next, Short}
 use Rattle.octets.specs.Buffer.{room_for, splice, put_in, put_answer}
 use Rattle.octets.specs.SameLaws.{impossible}
 
@@ -103,11 +102,11 @@ module _ (out : List ℕ) (at : ℕ) (new : List ℕ) where
       go false e = refl
 
 -- where there is room the answer is the place after the octets
-pub put_answer_room : (size at n : ℕ) → at + n ≤ size → put_answer size at n ≡ Next (at + n)
+pub put_answer_room : (size at n : ℕ) → at + n ≤ size → put_answer size at n ≡ Some (at + n)
 unfolding put_answer
 put_answer_room size at n h = rw (room_le size at n h)
 
 -- where there is none the answer says so
-pub put_answer_short : (size at n : ℕ) → size < at + n → put_answer size at n ≡ Short
+pub put_answer_short : (size at n : ℕ) → size < at + n → put_answer size at n ≡ None
 unfolding put_answer
 put_answer_short size at n h = rw (room_lt size at n h)

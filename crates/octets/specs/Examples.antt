@@ -1,8 +1,6 @@
 -- Small numbers and their octets, by computing.
 -- Assumes nothing.
-use Rattle.std.specs.Prelude.{◌-◌, ◌^◌, ◌≡◌, refl, false, [], ◌∷◌, replicate}
-use Rattle.octets.specs.declared.Number.TheVariants.{Is, Outside}
-use Rattle.octets.specs.declared.Written.TheVariants.{Next, Short}
+use Rattle.std.specs.Prelude.{◌-◌, ◌^◌, ◌≡◌, refl, false, [], ◌∷◌, Some, None, replicate}
 use Rattle.octets.specs.Number.{value_of, octets_of, number_at}
 use Rattle.octets.specs.Same.{same_of}
 use Rattle.octets.specs.Buffer.{room_for, put_in, put_answer}
@@ -23,11 +21,11 @@ unfolding value_of
 twenty = refl
 
 -- two octets at place 1, and two that are not there
-inside : number_at (9 ∷ 1 ∷ 2 ∷ []) 1 2 ≡ Is 258
+inside : number_at (9 ∷ 1 ∷ 2 ∷ []) 1 2 ≡ Some 258
 unfolding number_at value_of
 inside = refl
 
-outside : number_at (9 ∷ 1 ∷ 2 ∷ []) 2 2 ≡ Outside
+outside : number_at (9 ∷ 1 ∷ 2 ∷ []) 2 2 ≡ None
 unfolding number_at
 outside = refl
 
@@ -45,10 +43,10 @@ put_nowhere : put_in (7 ∷ 7 ∷ 7 ∷ []) 2 (1 ∷ 2 ∷ []) ≡ 7 ∷ 7 ∷ 7
 unfolding put_in room_for
 put_nowhere = refl
 
-answer_there : put_answer 3 1 2 ≡ Next 3
+answer_there : put_answer 3 1 2 ≡ Some 3
 unfolding put_answer room_for
 answer_there = refl
 
-answer_nowhere : put_answer 3 2 2 ≡ Short
+answer_nowhere : put_answer 3 2 2 ≡ None
 unfolding put_answer room_for
 answer_nowhere = refl

@@ -2,12 +2,11 @@
 -- pow256, pow256_pos; value_append, value_snoc, value_bound, value_low; octets_length, octets_octets,
 -- octets_high; value_mod, value_octets, octets_value; number_wide, number_outside, number_inside.
 -- The definitions are in Number. Assumes nothing.
-use Rattle.std.specs.Prelude.{ℕ, zero, suc, ◌+◌, ◌-◌, ◌*◌, ◌/◌, ◌%◌, ◌^◌, ◌≤◌, ◌<◌, ◌≡◌, refl, List, [], ◌∷◌, ◌++◌, Bool, true, false, cond, leb, length, take, drop}
+use Rattle.std.specs.Prelude.{ℕ, zero, suc, ◌+◌, ◌-◌, ◌*◌, ◌/◌, ◌%◌, ◌^◌, ◌≤◌, ◌<◌, ◌≡◌, refl, List, [], ◌∷◌, ◌++◌, Some, None, Bool, true, false, cond, leb, length, take, drop}
 use Rattle.std.proofs.Common.{zero-mul, zero-add, mul_assoc, add-mul, add_assoc, mul-suc, pow-suc, mod-lt, mod-eq_of_lt, le_trans, le_of_eq, le-add_right, mul-le-mul_right, one-mul, arith, sym, ap, ap₂, subst, ◌∙◌, lit<, length-append, pow-add, le-leb, leb-true}
 use Rattle.std.proofs.Math.Nat.{pow-succ', one-le-pow, mod-one, mul-add-div_right, mul-add-mod_self_right}
 use Rattle.std.proofs.Math.Arith.{digits_lt, digits_div, mod-mul}
 use Rattle.std.proofs.lemmas.Bool.{lt-leb}
-use Rattle.octets.specs.declared.Number.TheVariants.{Is, Outside}
 use Rattle.octets.specs.Octets.{Octets}
 use Rattle.octets.specs.Number.{value_of, octets_of, number_at}
 
@@ -94,21 +93,21 @@ octets_value (x ∷ s) p =
     (octets_high (length s) x (value_of s) ∙ octets_value s p.1)
 
 -- more than eight octets are not asked for
-pub number_wide : (s : List ℕ) (at w : ℕ) → 8 < w → number_at s at w ≡ Outside
+pub number_wide : (s : List ℕ) (at w : ℕ) → 8 < w → number_at s at w ≡ None
 unfolding number_at
 number_wide s at w h = rw (lt-leb w 8 h)
 
 -- octets that would end outside
-pub number_outside : (s : List ℕ) (at w : ℕ) → length s < at + w → number_at s at w ≡ Outside
+pub number_outside : (s : List ℕ) (at w : ℕ) → length s < at + w → number_at s at w ≡ None
 unfolding number_at
 number_outside s at w h = go (leb w 8) (leb at (length s)) refl
   where
-    go : (t u : Bool) → leb at (length s) ≡ u → cond t (cond u (cond (leb w (length s - at)) (Is (value_of (take w (drop at s)))) Outside) Outside) Outside ≡ Outside
+    go : (t u : Bool) → leb at (length s) ≡ u → cond t (cond u (cond (leb w (length s - at)) (Some (value_of (take w (drop at s)))) None) None) None ≡ None
     go false u e = refl
     go true false e = refl
     go true true e = rw (lt-leb w (length s - at) (omega (arith, leb-true at (length s) e)))
 
 -- octets that end inside
-pub number_inside : (s : List ℕ) (at w : ℕ) → w ≤ 8 → at + w ≤ length s → number_at s at w ≡ Is (value_of (take w (drop at s)))
+pub number_inside : (s : List ℕ) (at w : ℕ) → w ≤ 8 → at + w ≤ length s → number_at s at w ≡ Some (value_of (take w (drop at s)))
 unfolding number_at
 number_inside s at w h l = rw (le-leb w 8 h, le-leb at (length s) (omega arith), le-leb w (length s - at) (omega arith))

@@ -22,23 +22,9 @@ fn eight(s: &[u8], at: usize) -> u64
     )
 }
 
-// The same one by one: of two lists that are as long.
-fn same_few(a: &[u8], b: &[u8]) -> bool
-    requires { length a.now ≡ length b.now }
-    ensures { result ≡ same_of a.now b.now }
-{
-    let mut i: usize = 0;
-    while i < a.len() {
-        if a[i] != b[i] {
-            return false;
-        }
-        i += 1;
-    }
-    true
-}
-
 // Whether two lists are as long and equal one by one: by eights, the last of which may begin in the one
 // before it.
+#[tactic(auto, using(crate::proofs::Eights::same_few))]
 pub fn same(a: &[u8], b: &[u8]) -> bool
     ensures { result ≡ same_of a.now b.now }
 {
@@ -46,7 +32,7 @@ pub fn same(a: &[u8], b: &[u8]) -> bool
         return false;
     }
     if a.len() < 8 {
-        return same_few(a, b);
+        return a == b;
     }
     let last = a.len() - 8;
     let mut i: usize = 0;
@@ -56,10 +42,7 @@ pub fn same(a: &[u8], b: &[u8]) -> bool
         }
         i += 8;
     }
-    if eight(a, last) != eight(b, last) {
-        return false;
-    }
-    true
+    eight(a, last) == eight(b, last)
 }
 
 // The same of two hashes of twenty octets, by value.

@@ -1,8 +1,8 @@
 // Octets: comparing lists of them, writing them into a lent buffer, and numbers with the high
 // octet first.
 //
-// No function here has a requirement: what does not fit gets an answer that says so, and leaves
-// the buffer as it was.
+// No function here has a requirement: where something does not fit, the answer is None, and the buffer
+// is as it was.
 #![tactic(auto)]
 
 mod compare; // two lists compared
@@ -13,17 +13,3 @@ mod weights; // eight octets as one number
 pub use compare::{same, same20};
 pub use digits::{number_at, put_number};
 pub use place::put;
-
-// The number that some octets stand for, or that there are no such octets.
-#[derive(Clone, Copy)]
-pub enum Number {
-    Is(u64),
-    Outside,
-}
-
-// The place after the octets that were written, or that the buffer has no room for them.
-#[derive(Clone, Copy)]
-pub enum Written {
-    Next(usize),
-    Short,
-}

@@ -2,24 +2,16 @@
 ghost use Rattle.std.specs.Prelude.{◌≡◌, length};
 ghost use Rattle.octets.specs.Buffer.{put_in, put_answer};
 
-use crate::Written;
-
-// Writes all of src at a place, or nothing where there is no room for it.
-pub fn put(out: &mut [u8], at: usize, src: &[u8]) -> Written
+// Writes all of src at a place, and gives the place after it, or writes nothing where there is no room for it.
+#[tactic(auto, using(crate::specs::BufferLaws::put_answer_short, crate::specs::BufferLaws::put_in_short, crate::specs::BufferLaws::put_answer_room, crate::proofs::Turns::put_all))]
+pub fn put(out: &mut [u8], at: usize, src: &[u8]) -> Option<usize>
     ensures value { result ≡ put_answer (length out.old) at (length src.now) }
     ensures out_after { out.new ≡ put_in out.old at src.now }
 {
-    if out.len() < at {
-        return Written::Short;
-    }
-    if out.len() - at < src.len() {
-        return Written::Short;
-    }
-    let mut i = 0;
-    while i < src.len() {
-        out[at + i] = src[i];
-        i += 1;
+    if out.len() < at || out.len() - at < src.len() {
+        return None;
     }
     let next = at + src.len();
-    Written::Next(next)
+    out[at..next].copy_from_slice(src);
+    Some(next)
 }

@@ -5,18 +5,17 @@
 -- (response: Parts), `answer_of` what the check does (rules: Ruling), `der` the DER form of a reading (layout: Read).
 -- Which responses are basic, and which are errors, is in OneReading.
 -- Assumes nothing.
-use Rattle.std.specs.Prelude.{ℕ, ◌≤◌, ◌<◌, ◌↔◌, ◌≡◌, refl, List, [], ◌∷◌, length}
+use Rattle.std.specs.Prelude.{ℕ, ◌≤◌, ◌<◌, ◌↔◌, ◌≡◌, refl, List, [], ◌∷◌, length, Some, Ok, Err}
 use Rattle.std.proofs.Common.{arith}
 use Rattle.octets.specs.Octets.{Octets}
-use Rattle.layout.specs.Reading.{Basic}
+use Rattle.element.specs.Places.{misfit}
 use Rattle.layout.specs.Limits.{FailureOk}
 use Rattle.read_content.specs.ExpectLaws.{never}
 use Rattle.read_response.specs.Parts.{judged_of}
 use Rattle.read_response.proofs.OutcomeLaws as kinds
-use Rattle.read_response.specs.declared.Judged.{Judged}
-use Rattle.read_response.specs.declared.Judged.TheVariants as judged
+use Rattle.read_response.specs.Judged.{Judged}
+use Rattle.read_response.specs.declared.Unread.TheVariants as unread
 use Rattle.answer.specs.Verdict.{refused_at, refused}
-use Rattle.answer.specs.declared.Place.TheVariants.{At}
 use Rattle.rules.specs.declared.Question.{Question}
 use Rattle.rules.specs.Accepted.{InRange}
 use Rattle.rules.proofs.AcceptedLaws.{range_exactly}
@@ -27,7 +26,7 @@ use Rattle.promises.specs.Envelopes.{IsError, IsOtherType, IsBasic, other_type_e
 
 -- it is judged not to fit, at some place, exactly if it has at most 16,384 octets and is none of the three
 pub unfit_exactly : (s : List ℕ) → Octets s
-    → ((place : ℕ) × (judged_of s ≡ judged.Unfit place))
+    → ((place : ℕ) × (judged_of s ≡ Err (unread.Unfit (misfit place))))
     ↔ (length s ≤ 16384) × (IsError s → ⊥) × (IsOtherType s → ⊥) × (IsBasic s → ⊥)
 unfit_exactly s o = (
   λ (p, e).
@@ -40,12 +39,12 @@ unfit_exactly s o = (
   λ (le, a, b, c). go le a b c (judged_of s) refl,
 )
   where
-    go : length s ≤ 16384 → (IsError s → ⊥) → (IsOtherType s → ⊥) → (IsBasic s → ⊥) → (j : Judged) → judged_of s ≡ j → (place : ℕ) × (judged_of s ≡ judged.Unfit place)
-    go le a b c (judged.Basic p) i = let (x, w, z, e) = (basic_exactly s o).0 (p, i) in absurd (c (x, w, e))
-    go le a b c judged.TooLong i = absurd (omega (arith, (kinds.long_judged s).0 i))
-    go le a b c (judged.Unfit p) i = (p, i)
-    go le a b c (judged.Failed n) i = let (w, e) = (error_exactly s n o).0 i in absurd (a (n, w, e))
-    go le a b c judged.OtherType i = absurd (b ((other_type_exactly s o).0 i).1)
+    go : length s ≤ 16384 → (IsError s → ⊥) → (IsOtherType s → ⊥) → (IsBasic s → ⊥) → (j : Judged) → judged_of s ≡ j → (place : ℕ) × (judged_of s ≡ Err (unread.Unfit (misfit place)))
+    go le a b c (Ok p) i = let (x, w, z, e) = (basic_exactly s o).0 (p, i) in absurd (c (x, w, e))
+    go le a b c (Err unread.TooLong) i = absurd (omega (arith, (kinds.long_judged s).0 i))
+    go le a b c (Err (unread.Unfit p)) i = (p.place, i)
+    go le a b c (Err (unread.Failed n)) i = let (w, e) = (error_exactly s n o).0 i in absurd (a (n, w, e))
+    go le a b c (Err unread.OtherType) i = absurd (b ((other_type_exactly s o).0 i).1)
 
 -- ── what the check answers, for a question in range ──
 module _ (q : Question) (name s : List ℕ) (range : InRange q name) where
@@ -56,7 +55,7 @@ module _ (q : Question) (name s : List ℕ) (range : InRange q name) where
   module _ (o : Octets s) where
     -- 3, with a place, exactly if it has at most that many and is no error response, of no other type, and not basic; which
     -- place is in Misfits
-    pub three_given : ((p : ℕ) × (answer_of q name s ≡ refused_at 3 0 (At p))) ↔ (length s ≤ 16384) × (IsError s → ⊥) × (IsOtherType s → ⊥) × (IsBasic s → ⊥)
+    pub three_given : ((p : ℕ) × (answer_of q name s ≡ refused_at 3 0 (Some p))) ↔ (length s ≤ 16384) × (IsError s → ⊥) × (IsOtherType s → ⊥) × (IsBasic s → ⊥)
     three_given = (
       λ (p, e).
           let (le, r) = (ruling.three_exactly q name s ((range_exactly q name).1 range) p).0 e in

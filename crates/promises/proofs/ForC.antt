@@ -1,34 +1,34 @@
 -- What desk_refusal answers, by a response's octets: refusal_answers. What is said of the other functions for C is in specs/ForC.
 -- Assumes nothing.
-use Rattle.std.specs.Prelude.{ℕ, ◌≤◌, ◌<◌, ◌↔◌, ◌≡◌, refl, List, [], ◌∷◌, length}
+use Rattle.std.specs.Prelude.{ℕ, ◌≤◌, ◌<◌, ◌↔◌, ◌≡◌, refl, List, [], ◌∷◌, length, Ok, Err}
 use Rattle.std.proofs.Common.{arith}
 use Rattle.std.proofs.Math.Path.{ap}
 use Rattle.octets.specs.Octets.{Octets}
-use Rattle.layout.specs.Reading.{Basic}
+use Rattle.element.specs.Places.{misfit}
 use Rattle.layout.specs.Limits.{FailureOk}
 use Rattle.read_response.specs.Parts.{judged_of}
 use Rattle.read_response.specs.Refusals.{refusal_of}
 use Rattle.read_response.specs.declared.Parts.{Parts}
-use Rattle.read_response.specs.declared.Judged.{Judged}
-use Rattle.read_response.specs.declared.Judged.TheVariants as judged
+use Rattle.read_response.specs.Judged.{Judged}
+use Rattle.read_response.specs.declared.Unread.TheVariants as unread
 use Rattle.promises.specs.OneReading.{basic_exactly, error_exactly}
 use Rattle.promises.specs.Envelopes.{IsError, IsOtherType, IsBasic, other_type_exactly, too_long_exactly}
 use Rattle.promises.proofs.Envelopes.{unfit_exactly}
 
 -- the number of a refusal says which case it is
 number_says : (j : Judged)
-    → ((refusal_of j).number ≡ 0 → (t : Parts) × (j ≡ judged.Basic t))
-    × ((refusal_of j).number ≡ 2 → j ≡ judged.TooLong)
-    × ((refusal_of j).number ≡ 3 → (p : ℕ) × (j ≡ judged.Unfit p))
-    × ((refusal_of j).number ≡ 4 → j ≡ judged.Failed (refusal_of j).status)
-    × ((refusal_of j).number ≡ 5 → j ≡ judged.OtherType)
+    → ((refusal_of j).number ≡ 0 → (t : Parts) × (j ≡ Ok t))
+    × ((refusal_of j).number ≡ 2 → j ≡ Err unread.TooLong)
+    × ((refusal_of j).number ≡ 3 → (p : ℕ) × (j ≡ Err (unread.Unfit (misfit p))))
+    × ((refusal_of j).number ≡ 4 → j ≡ Err (unread.Failed (refusal_of j).status))
+    × ((refusal_of j).number ≡ 5 → j ≡ Err unread.OtherType)
     × (((refusal_of j).number ≡ 4 → ⊥) → (refusal_of j).status ≡ 0)
 unfolding refusal_of
-number_says (judged.Basic t) = (λ e. (t, refl), λ e. absurd (omega arith), λ e. absurd (omega arith), λ e. absurd (omega arith), λ e. absurd (omega arith), λ e. refl)
-number_says judged.TooLong = (λ e. absurd (omega arith), λ e. refl, λ e. absurd (omega arith), λ e. absurd (omega arith), λ e. absurd (omega arith), λ e. refl)
-number_says (judged.Unfit p) = (λ e. absurd (omega arith), λ e. absurd (omega arith), λ e. (p, refl), λ e. absurd (omega arith), λ e. absurd (omega arith), λ e. refl)
-number_says (judged.Failed n) = (λ e. absurd (omega arith), λ e. absurd (omega arith), λ e. absurd (omega arith), λ e. refl, λ e. absurd (omega arith), λ e. absurd (e refl))
-number_says judged.OtherType = (λ e. absurd (omega arith), λ e. absurd (omega arith), λ e. absurd (omega arith), λ e. absurd (omega arith), λ e. refl, λ e. refl)
+number_says (Ok t) = (λ e. (t, refl), λ e. absurd (omega arith), λ e. absurd (omega arith), λ e. absurd (omega arith), λ e. absurd (omega arith), λ e. refl)
+number_says (Err unread.TooLong) = (λ e. absurd (omega arith), λ e. refl, λ e. absurd (omega arith), λ e. absurd (omega arith), λ e. absurd (omega arith), λ e. refl)
+number_says (Err (unread.Unfit p)) = (λ e. absurd (omega arith), λ e. absurd (omega arith), λ e. (p.place, refl), λ e. absurd (omega arith), λ e. absurd (omega arith), λ e. refl)
+number_says (Err (unread.Failed n)) = (λ e. absurd (omega arith), λ e. absurd (omega arith), λ e. absurd (omega arith), λ e. refl, λ e. absurd (omega arith), λ e. absurd (e refl))
+number_says (Err unread.OtherType) = (λ e. absurd (omega arith), λ e. absurd (omega arith), λ e. absurd (omega arith), λ e. absurd (omega arith), λ e. refl, λ e. refl)
 
 module _ (s : List ℕ) (o : Octets s) where
   -- desk_refusal: 0 exactly for a basic response within the limits; 2 where it has more than 16,384 octets; 3 where it is none

@@ -4,13 +4,13 @@
 -- Refusals are in Refusals, that no answer is about another card is in OneCard.
 -- `answer_of` is what rule_check::check answers for a question, the signer's Name and a response (rules: Ruling).
 -- Assumes nothing.
-use Rattle.std.specs.Prelude.{ℕ, ◌+◌, ◌≤◌, ◌↔◌, ◌≡◌, true, List, [], ◌∷◌, length}
-use Rattle.std.proofs.Math.Option.{Option, some}
+use Rattle.std.specs.Prelude.{ℕ, ◌+◌, ◌≤◌, ◌↔◌, ◌≡◌, true, List, [], ◌∷◌, length, Option}
+use Rattle.std.proofs.Math.Option as maybe
+use Rattle.std.proofs.Math.Option.{some}
 use Rattle.layout.specs.Reading.{good, revoked, unknown, Entry, Basic, basic}
 use Rattle.layout.specs.Read.{reads}
 use Rattle.layout.proofs.Read.{reading}
 use Rattle.answer.specs.Card.{card_ok}
-use Rattle.answer.specs.declared.Reason.{Reason}
 use Rattle.answer.specs.declared.Verdict.TheVariants.{Good, Revoked, Unknown}
 use Rattle.rules.specs.declared.Question.{Question}
 use Rattle.rules.specs.Order.{entries_for}
@@ -88,9 +88,9 @@ module _ (q : Question) (name s : List ℕ) where
   good_exactly = ruling.good_exactly q name s
 
   -- revoked, at a time and for a reason or none, exactly when it is accepted and the entry's status is that
-  pub revoked_exactly : (this next at : ℕ) (reason : Reason)
+  pub revoked_exactly : (this next at : ℕ) (reason : Option ℕ)
       → (answer_of q name s).verdict ≡ Revoked this next at reason
-      ↔ (b : Basic) × (e : Entry) × (r : Option ℕ) × Accepted q name s b e next × (e.status ≡ revoked at r) × (reason_in r ≡ reason) × (e.this_update ≡ this)
+      ↔ (b : Basic) × (e : Entry) × (r : maybe.Option ℕ) × Accepted q name s b e next × (e.status ≡ revoked at r) × (reason_in r ≡ reason) × (e.this_update ≡ this)
   revoked_exactly = ruling.revoked_exactly q name s
 
   -- unknown exactly when it is accepted and the entry's status is unknown

@@ -4,7 +4,7 @@
 -- `output_told` is document 01's number and values of what is answered (Numbers); `output_of` and `output_in` are what write_request
 -- and write_slip answer and leave (fields: Output).
 -- Assumes nothing.
-use Rattle.std.specs.Prelude.{ℕ, ◌+◌, ◌≤◌, ◌<◌, ◌↔◌, ◌≡◌, refl, Bool, true, false, cond, List, [], ◌∷◌, ◌++◌, ltb, length, drop}
+use Rattle.std.specs.Prelude.{ℕ, ◌≤◌, ◌<◌, ◌↔◌, ◌≡◌, refl, Bool, true, false, cond, List, [], ◌∷◌, ◌++◌, ltb, length, drop}
 use Rattle.std.proofs.Common.{arith, sym, ltb-true, ltb-false}
 use Rattle.octets.specs.SameLaws.{impossible}
 use Rattle.answer.specs.Card.{card_ok}

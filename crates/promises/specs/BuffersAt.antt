@@ -4,7 +4,7 @@
 -- `written_told` and `formed_told` are document 01's number and values of what is answered (Numbers); `put_answer` and `put_in` are
 -- what octets::put and put_number do (octets: Buffer), `header_answer` and `header_in` what element::put_header does (element: Form).
 -- Assumes nothing.
-use Rattle.std.specs.Prelude.{ℕ, ◌+◌, ◌≤◌, ◌<◌, ◌↔◌, ◌≡◌, refl, Bool, true, false, List, [], ◌∷◌, ◌++◌, ltb, length, take, drop}
+use Rattle.std.specs.Prelude.{ℕ, ◌+◌, ◌≤◌, ◌<◌, ◌↔◌, ◌≡◌, refl, Bool, true, false, List, [], ◌∷◌, ◌++◌, ltb, length, take, drop, Ok, Err}
 use native.Mathlib.Omega.{arith}
 use Rattle.std.proofs.Common.{sym, ap, ◌∙◌, ltb-true, ltb-false}
 use Rattle.octets.specs.SameLaws.{impossible}
@@ -14,7 +14,7 @@ use Rattle.octets.specs.Number.{octets_of}
 use Rattle.octets.specs.NumberLaws.{octets_length}
 use Rattle.element.specs.Tag.{tag_ok}
 use Rattle.element.specs.Form.{head_form, head_size, room_answer, header_in, header_answer}
-use Rattle.element.specs.declared.Formed.TheVariants as formed
+use Rattle.element.specs.declared.Unformed.TheVariants as unformed
 use Rattle.promises.specs.Numbers.{Told, written_told, formed_told}
 
 -- ── octets, numbers and headers at a place of a buffer ──
@@ -69,16 +69,16 @@ module _ (out : List ℕ) (at tag len : ℕ) where
   unfolding head_size
   head_size_lem = omega arith
 
-  header_none : tag_ok tag ≡ false → (header_answer (length out) at tag len ≡ formed.NoTag) × (header_in out at tag len ≡ out)
+  header_none : tag_ok tag ≡ false → (header_answer (length out) at tag len ≡ Err unformed.NoTag) × (header_in out at tag len ≡ out)
   unfolding header_answer header_in
   header_none p = rw p (refl, refl)
 
-  header_short : tag_ok tag ≡ true → length out < at + length (head_form tag len) → (header_answer (length out) at tag len ≡ formed.Short) × (header_in out at tag len ≡ out)
+  header_short : tag_ok tag ≡ true → length out < at + length (head_form tag len) → (header_answer (length out) at tag len ≡ Err unformed.Short) × (header_in out at tag len ≡ out)
   unfolding header_answer header_in room_answer
   header_short p h = rw (p, head_size_lem, room_lt (length out) at (length (head_form tag len)) h) (refl, put_in_short out at (head_form tag len) h)
 
   header_room : tag_ok tag ≡ true → at + length (head_form tag len) ≤ length out
-      → (header_answer (length out) at tag len ≡ formed.Next (at + length (head_form tag len)))
+      → (header_answer (length out) at tag len ≡ Ok (at + length (head_form tag len)))
       × (header_in out at tag len ≡ take at out ++ (head_form tag len ++ drop (at + length (head_form tag len)) out))
   unfolding header_answer header_in room_answer
   header_room p h = rw (p, head_size_lem, room_le (length out) at (length (head_form tag len)) h) (refl, put_in_room out at (head_form tag len) h)

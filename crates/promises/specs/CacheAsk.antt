@@ -5,7 +5,7 @@
 -- card (Has), `says_at` what the slip in a place says, `this_of` and `next_of` its times (Place), `asked_number` the
 -- number of what asking gives (Numbers). An ask leaves the buffer: it is handed a part that it cannot write.
 -- `Octets` holds of every buffer in code. Assumes nothing.
-use Rattle.std.specs.Prelude.{ℕ, ◌+◌, ◌*◌, ◌≤◌, ◌<◌, ◌⊎◌, ◌↔◌, ◌≡◌, refl, true, false, List, take, drop}
+use Rattle.std.specs.Prelude.{ℕ, ◌+◌, ◌*◌, ◌≤◌, ◌<◌, ◌⊎◌, ◌↔◌, ◌≡◌, refl, true, false, List, take, drop, Some, None}
 use Rattle.std.proofs.Common.{ltb-true, lt-ltb}
 use Rattle.octets.specs.Octets.{Octets}
 use Rattle.answer.specs.declared.Card.{Card}
@@ -16,7 +16,6 @@ use Rattle.answer.specs.Verdict.{kind_of, number_of, refused}
 use Rattle.slip.specs.Slip.{slip_of}
 use Rattle.freshness.specs.Clock.{clock_ok}
 use Rattle.freshness.specs.declared.Clock.{Clock}
-use Rattle.cache_rules.specs.declared.Asked.TheVariants.{NotHeld, Says}
 use Rattle.cache_rules.specs.Place.{slip_size, kind_at, says_at, this_of, next_of, stale_at, is_stale}
 use Rattle.cache_rules.specs.Cache.{place_in, is_cache, told, not_held, ask_of}
 use Rattle.cache_rules.specs.Has.{Has}
@@ -26,11 +25,11 @@ use Rattle.cache_rules.proofs.AskTheorem as ask
 use Rattle.cache_rules.proofs.OutcomeTheorem as order
 
 -- what is told: an answer or a refusal with its card, which is empty for a refusal; or that the card is not held
-pub told_in_full : (a : Answer) → told a ≡ record { asked = Says a.verdict; card = a.card }
+pub told_in_full : (a : Answer) → told a ≡ record { asked = Some a.verdict; card = a.card }
 unfolding told
 told_in_full a = refl
 
-pub not_held_in_full : not_held ≡ record { asked = NotHeld; card = empty_card }
+pub not_held_in_full : not_held ≡ record { asked = None; card = empty_card }
 unfolding not_held
 not_held_in_full = refl
 
@@ -96,5 +95,5 @@ unfolding stale_at
 stale_in_full clock v = (λ e. ltb-true (next_of v + clock.tolerance) clock.now e, λ h. lt-ltb (next_of v + clock.tolerance) clock.now h)
 
 -- ── the number of each case: a refusal's own, 0 of an answer, 256 of "not held" ──
-pub asked_number_in_full : (asked_number NotHeld ≡ 256) × ((v : Verdict) → asked_number (Says v) ≡ number_of v)
+pub asked_number_in_full : (asked_number None ≡ 256) × ((v : Verdict) → asked_number (Some v) ≡ number_of v)
 asked_number_in_full = (refl, λ v. refl)

@@ -8,7 +8,7 @@
 -- itself gives 16 at the time of one of the filings (cache_check: Later). `asked q r` is the desk's answer to the
 -- octets of a question and a response (question: Asked). `Octets`, `AllOctets` and `Whole` hold of every buffer, slip
 -- and card in code. Assumes nothing.
-use Rattle.std.specs.Prelude.{ℕ, ◌≤◌, ◌<◌, ◌⊎◌, ◌≡◌, refl, true, false, List}
+use Rattle.std.specs.Prelude.{ℕ, ◌≤◌, ◌<◌, ◌⊎◌, ◌≡◌, refl, true, false, List, Ok, Err}
 use Rattle.octets.specs.Octets.{Octets}
 use Rattle.answer.specs.Verdict.{refused}
 use Rattle.slip.specs.Slip.{slip_of}
@@ -18,7 +18,7 @@ use Rattle.rules.specs.Accepted.{NoRefusal}
 use Rattle.desk_question.specs.Asked.{question_in, name_in, asked}
 use Rattle.freshness.specs.Clock.{clock_ok}
 use Rattle.freshness.specs.declared.Clock.{Clock}
-use Rattle.cache_rules.specs.declared.Filed.TheVariants.{Count, Refused}
+use Rattle.cache_rules.specs.declared.Unfiled.TheVariants as unfiled
 use Rattle.cache_rules.specs.Place.{says_at, this_of, says_of, WholeCard}
 use Rattle.cache_rules.specs.Cache.{place_in, is_cache, filed_of, buffer_of, told, ask_of}
 use Rattle.cache_rules.specs.Has.{Has}
@@ -59,7 +59,7 @@ module _ (q : Question) (name r : List ℕ) (v : NoRefusal (answer_of q name r).
 
   -- a slip t that says it is filed, with any time and tolerance, and accepted, and no later slip was held for the card:
   -- right after the filing, and after any further filings for other cards
-  module _ (clock : Clock) (s t : List ℕ) (o : Octets s) (p : Octets t) (n : ℕ) (accepted : filed_of clock s t ≡ Count n)
+  module _ (clock : Clock) (s t : List ℕ) (o : Octets s) (p : Octets t) (n : ℕ) (accepted : filed_of clock s t ≡ Ok n)
       (says : says_of t ≡ answer_of q name r)
       (newest : (i : ℕ) → Has s i q.card → this_of (says_at (place_in s i)).verdict ≤ this_of (answer_of q name r).verdict) where
     pub filed : AsTheCheck q name r (buffer_of clock s t)
@@ -74,7 +74,7 @@ module _ (q : Question) (name r : List ℕ) (v : NoRefusal (answer_of q name r).
     pub written_says : says_of (slip_of (answer_of q name r)) ≡ answer_of q name r
     written_says = filing.check_slip q name r o v w
 
-    pub never_17 : (clock : Clock) (s : List ℕ) → filed_of clock s (slip_of (answer_of q name r)) ≡ Refused 17 → ⊥
+    pub never_17 : (clock : Clock) (s : List ℕ) → filed_of clock s (slip_of (answer_of q name r)) ≡ Err unfiled.Slip → ⊥
     never_17 = filing.never_17 q name r o v w
 
 -- ── the slip that the desk itself wrote for the octets of a question and a response ──
@@ -85,7 +85,7 @@ module _ (q r : List ℕ) (o : Octets r) (v : NoRefusal (asked q r).verdict) whe
 
   -- so, once it is filed and accepted and no later slip was held for the card, asking gives what the check gives
   module _ (clock : Clock) (s : List ℕ) (p : Octets s) (t : Octets (slip_of (asked q r)))
-      (n : ℕ) (accepted : filed_of clock s (slip_of (asked q r)) ≡ Count n)
+      (n : ℕ) (accepted : filed_of clock s (slip_of (asked q r)) ≡ Ok n)
       (newest : (i : ℕ) → Has s i (question_in 20 q).card → this_of (says_at (place_in s i)).verdict ≤ this_of (asked q r).verdict) where
     pub desk_filed : AsTheCheck (question_in 20 q) (name_in 20 q) r (buffer_of clock s (slip_of (asked q r)))
     desk_filed =

@@ -6,19 +6,18 @@
 -- cache_rules: Has, `says_of` and `says_at`, what a slip and the slip in a place say, in cache_rules: Place, `count` in
 -- cache_room: Room. `Octets` holds of every buffer and slip in code. Refused filings are in CacheRefusals. Assumes
 -- nothing.
-use Rattle.std.specs.Prelude.{ℕ, suc, ◌-◌, ◌*◌, ◌≤◌, ◌<◌, ◌⊎◌, ◌≡◌, true, List, [], ◌++◌, length, replicate}
+use Rattle.std.specs.Prelude.{ℕ, suc, ◌-◌, ◌*◌, ◌≤◌, ◌<◌, ◌⊎◌, ◌≡◌, true, List, [], ◌++◌, length, replicate, Ok}
 use Rattle.octets.specs.Octets.{Octets}
 use Rattle.octets.specs.Buffer.{put_in}
 use Rattle.cache_room.specs.Room.{count}
 use Rattle.freshness.specs.declared.Clock.{Clock}
-use Rattle.cache_rules.specs.declared.Filed.TheVariants.{Count}
 use Rattle.cache_rules.specs.Place.{card_at, says_at, place_of, this_of, says_of}
 use Rattle.cache_rules.specs.Cache.{room_of, place_in, is_cache, takes, filed_of, buffer_of}
 use Rattle.cache_rules.specs.Has.{Has, Free}
 use Rattle.cache_rules.proofs.FileTheorem as filing
 
 -- a filing that is accepted, with the answer n
-module _ (clock : Clock) (s t : List ℕ) (o : Octets t) (n : ℕ) (accepted : filed_of clock s t ≡ Count n) where
+module _ (clock : Clock) (s t : List ℕ) (o : Octets t) (n : ℕ) (accepted : filed_of clock s t ≡ Ok n) where
   abbrev left : List ℕ
   left = buffer_of clock s t
 

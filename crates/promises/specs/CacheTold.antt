@@ -6,7 +6,7 @@
 -- hex is the line, and `cache_of` those that follow it (cache_line: Reply); `input_form` is an input written in order. `Octets` and
 -- `Sized` hold of every value in code. What is read from outside and written there, no theorem says.
 -- Assumes nothing.
-use Rattle.std.specs.Prelude.{ℕ, ◌+◌, ◌^◌, ◌≤◌, ◌<◌, ◌⊎◌, ◌↔◌, ◌≡◌, refl, true, cond, List, [], ◌∷◌, length}
+use Rattle.std.specs.Prelude.{ℕ, ◌+◌, ◌^◌, ◌≤◌, ◌<◌, ◌⊎◌, ◌↔◌, ◌≡◌, refl, true, cond, List, [], ◌∷◌, length, Ok, Err}
 use Rattle.octets.specs.Octets.{Octets}
 use Rattle.freshness.specs.declared.Clock.{Clock}
 use Rattle.freshness.specs.Clock.{clock_ok}
@@ -18,9 +18,10 @@ use Rattle.slip.specs.Slip.{slip_of, Sized}
 use Rattle.show.specs.Parts.{empty_span}
 use Rattle.show.specs.Shown.{octets_in}
 use Rattle.desk_intake.specs.Kept.{kept_of}
-use Rattle.cache_rules.specs.declared.Filed.TheVariants as filed
+use Rattle.cache_rules.specs.declared.Unfiled.{Unfiled}
+use Rattle.cache_rules.specs.declared.Unfiled.TheVariants as unfiled
 use Rattle.cache_rules.specs.Cache.{room_of, is_cache, filed_of, buffer_of, told, not_held, ask_of}
-use Rattle.cache_rules.specs.Numbers.{filed_number, filed_count}
+use Rattle.cache_rules.specs.Numbers.{unfiled_number, filed_number, filed_count}
 use Rattle.cache_ask.specs.Found.{card_or_zeros, ask_found}
 use Rattle.desk_c.specs.Caches.{found_number, found_span}
 use Rattle.desk_c.specs.CachesLaws as c
@@ -60,8 +61,13 @@ module _ (clock : Clock) (card s : List ℕ) where
 -- ── desk_cache_file: 0 and the count, or the refusal's number and 0 ──
 
 pub c_file_numbers : (n : ℕ)
-    → (filed_number (filed.Count n) ≡ 0) × (filed_count (filed.Count n) ≡ n) × (filed_number (filed.Refused n) ≡ n) × (filed_count (filed.Refused n) ≡ 0)
-c_file_numbers n = (refl, refl, refl, refl)
+    → (filed_number (Ok n) ≡ 0) × (filed_count (Ok n) ≡ n)
+    × ((e : Unfiled) → (filed_number (Err e) ≡ unfiled_number e) × (filed_count (Err e) ≡ 0))
+    × (unfiled_number unfiled.NoCache ≡ 19)
+    × (unfiled_number unfiled.Clock ≡ 1)
+    × (unfiled_number unfiled.Slip ≡ 17)
+    × (unfiled_number unfiled.Full ≡ 20)
+c_file_numbers n = (refl, refl, λ e. (refl, refl), refl, refl, refl, refl)
 
 -- ── the program `room` ──
 

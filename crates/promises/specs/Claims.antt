@@ -2,20 +2,16 @@
 -- library's own definitions.
 -- Claim; case_question; holds. The examples are in Marked.
 -- Assumes nothing.
-use Rattle.std.specs.Prelude.{ℕ, ◌+◌, Bool, true, false, ◌&&◌, not, List, [], ◌∷◌, ◌++◌, eqb, length, take, replicate}
+use Rattle.std.specs.Prelude.{ℕ, ◌+◌, Bool, true, false, ◌&&◌, not, List, [], ◌∷◌, ◌++◌, eqb, length, take, replicate, Option, Some, None, Ok, Err}
 use Rattle.octets.specs.Number.{value_of}
 use Rattle.octets.specs.Same.{same_of}
 use Rattle.element.specs.Length.{length_form}
 use Rattle.element.specs.Header.{header_of}
-use Rattle.element.specs.declared.Header.{Header}
-use Rattle.element.specs.declared.Header.TheVariants.{Found, Refused}
+use Rattle.element.specs.Places.{HeaderRead}
 use Rattle.content.specs.Serial.{serial_ok, serial_form}
 use Rattle.calendar.specs.Examples.{text}
 use Rattle.calendar.specs.Time.{time_of, time_form}
-use Rattle.calendar.specs.declared.Time.{Time}
-use Rattle.calendar.specs.declared.Time.TheVariants.{At, No}
 use Rattle.freshness.specs.Fresh.{fresh_of, fresh_refusal}
-use Rattle.freshness.specs.declared.Next.TheVariants as update
 use Rattle.answer.specs.Verdict.{number_of}
 use Rattle.answer.specs.declared.Card.{Card}
 use Rattle.rules.specs.Ruling.{answer_of}
@@ -41,24 +37,24 @@ pub data Claim : Type 0 where
   request : Card → ℕ → List ℕ → Claim
 
 -- a time is this many seconds
-abbrev is_at : Time → ℕ → Bool
-is_at (At n) m = eqb n m
-is_at No m = false
+abbrev is_at : Option ℕ → ℕ → Bool
+is_at (Some n) m = eqb n m
+is_at None m = false
 
 -- it is none
-abbrev is_no : Time → Bool
-is_no (At n) = false
-is_no No = true
+abbrev is_no : Option ℕ → Bool
+is_no (Some n) = false
+is_no None = true
 
 -- a header has this size, and its content this length
-abbrev is_found : Header → ℕ → ℕ → Bool
-is_found (Found t h n) size len = eqb h size && eqb n len
-is_found (Refused p) size len = false
+abbrev is_found : HeaderRead → ℕ → ℕ → Bool
+is_found (Ok h) size len = eqb h.start size && eqb h.len len
+is_found (Err p) size len = false
 
 -- it is refused
-abbrev is_refused : Header → Bool
-is_refused (Found t h n) = false
-is_refused (Refused p) = true
+abbrev is_refused : HeaderRead → Bool
+is_refused (Ok h) = false
+is_refused (Err p) = true
 
 -- the question of document 01's case, whose response is any
 abbrev pub case_question : Question
@@ -81,5 +77,5 @@ holds (no_length l n) = is_refused (header_of (0x04 ∷ (l ++ replicate n 0)))
 holds (is_serial l n) = serial_ok l && eqb (value_of l) n && same_of (serial_form n) l
 holds (no_serial l) = not (serial_ok l)
 holds (gives s n) = eqb (number_of (answer_of case_question [] s).verdict) n
-holds (counts this next tolerance now n) = eqb (fresh_refusal (fresh_of this (update.At next) now tolerance)) n
+holds (counts this next tolerance now n) = eqb (fresh_refusal (fresh_of this (Some next) now tolerance)) n
 holds (request c n l) = eqb (request_refusal c) 0 && eqb (length (request_of c)) n && same_of (take (length l) (request_of c)) l

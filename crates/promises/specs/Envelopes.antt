@@ -5,7 +5,7 @@
 -- (response: Parts), `answer_of` what the check does (rules: Ruling), `der` the DER form of a reading (layout: Read).
 -- Which responses are basic, and which are errors, is in OneReading.
 -- Assumes nothing.
-use Rattle.std.specs.Prelude.{ℕ, ◌≤◌, ◌<◌, ◌↔◌, ◌≡◌, refl, true, List, [], ◌∷◌, ◌++◌, length}
+use Rattle.std.specs.Prelude.{ℕ, ◌≤◌, ◌<◌, ◌↔◌, ◌≡◌, refl, true, List, [], ◌∷◌, ◌++◌, length, Err}
 use Rattle.std.proofs.Common.{sym, ◌∙◌}
 use Rattle.octets.specs.Octets.{Octets}
 use Rattle.element.specs.Form.{form_of}
@@ -18,7 +18,7 @@ use Rattle.layout.proofs.Read.{der}
 use Rattle.layout.proofs.Opened.{opened}
 use Rattle.read_response.specs.Parts.{judged_of}
 use Rattle.read_response.proofs.OutcomeLaws as kinds
-use Rattle.read_response.specs.declared.Judged.TheVariants as judged
+use Rattle.read_response.specs.declared.Unread.TheVariants as unread
 
 -- ── three kinds of responses, in octets ──
 
@@ -48,12 +48,12 @@ unfolding opened
 success_form t c = refl
 
 -- a response is judged to be of another type exactly if it has at most 16,384 octets and is one
-pub other_type_exactly : (s : List ℕ) → Octets s → judged_of s ≡ judged.OtherType ↔ (length s ≤ 16384) × IsOtherType s
+pub other_type_exactly : (s : List ℕ) → Octets s → judged_of s ≡ Err unread.OtherType ↔ (length s ≤ 16384) × IsOtherType s
 other_type_exactly s o = (
   λ e. let (le, (t, c, i, k, n)) = (kinds.other_exactly s o).0 e in (le, (t, c, i ∙ success_form t c, k, n)),
   λ (le, (t, c, i, k, n)). (kinds.other_exactly s o).1 (le, (t, c, i ∙ sym (success_form t c), k, n)),
 )
 
 -- and too long exactly if it has more
-pub too_long_exactly : (s : List ℕ) → judged_of s ≡ judged.TooLong ↔ 16384 < length s
+pub too_long_exactly : (s : List ℕ) → judged_of s ≡ Err unread.TooLong ↔ 16384 < length s
 too_long_exactly = kinds.long_judged

@@ -11,6 +11,7 @@ use Rattle.std.proofs.Common.{⊎_elim, ◌∙◌}
 use Rattle.std.proofs.Math.Path.{ap}
 use Rattle.std.proofs.Math.Option.{none, some}
 use Rattle.octets.specs.Octets.{Octets}
+use Rattle.element.specs.declared.Span.{Span}
 use Rattle.codec.specs.Option.{option_enc}
 use Rattle.codec.specs.Many.{forms}
 use Rattle.layout.specs.Reading.{Basic, basic}
@@ -21,7 +22,6 @@ use Rattle.layout.proofs.Read.{reading}
 use Rattle.read_response.specs.Parts.{judged_of}
 use Rattle.read_response.specs.Refusals.{refusal_of}
 use Rattle.read_response.specs.declared.Parts.{Parts}
-use Rattle.read_response.specs.declared.Span.{Span}
 use Rattle.show.proofs.PartsLaws as parts
 use Rattle.show.specs.Shown.{octets_in, signed_of, signature_of, entry_of}
 use Rattle.show.specs.declared.Entry.{Entry}

@@ -7,10 +7,10 @@
 -- `Least p l` says that p is one of l and none of l is before it (faults: Order).
 -- That a response without one is of one of three kinds is in proofs/Misfits.
 -- Assumes nothing.
-use Rattle.std.specs.Prelude.{ℕ, ◌≤◌, ◌↔◌, ◌≡◌, refl, cond, List, [], length}
+use Rattle.std.specs.Prelude.{ℕ, ◌≤◌, ◌↔◌, ◌≡◌, refl, cond, List, [], length, Option, Some, None, Err}
 use Rattle.std.proofs.Common.{ap}
+use Rattle.element.specs.Places.{misfit}
 use Rattle.element.specs.Header.{header_of}
-use Rattle.element.specs.declared.Header.TheVariants as header
 use Rattle.layout.specs.Read.{unfit}
 use Rattle.layout.proofs.Read.{reading}
 use Rattle.layout.proofs.Theorem.{place_within_lem}
@@ -21,8 +21,6 @@ use Rattle.misfits.specs.Misfits.{misfits}
 use Rattle.misfits.proofs.Theorem.{place_least, fits_none}
 use Rattle.answer.specs.Verdict.{refused_at}
 use Rattle.answer.specs.declared.Verdict.TheVariants.{Refused}
-use Rattle.answer.specs.declared.Place.{Place}
-use Rattle.answer.specs.declared.Place.TheVariants.{At, Absent}
 use Rattle.answer.specs.declared.Answer.{Answer}
 use Rattle.rules.specs.declared.Question.{Question}
 use Rattle.rules.specs.Accepted.{InRange}
@@ -34,7 +32,7 @@ use Rattle.rules.proofs.EarlyLaws.{three_exactly, place_exactly}
 -- ── a response's misfits ──
 
 -- a header that is refused is at fault at the end of what holds it where it is cut off, else at its tag
-pub header_place : (s : List ℕ) (p : ℕ) → header_of s ≡ header.Refused p → p ≡ cond (cut_off s) (length s) 0
+pub header_place : (s : List ℕ) (p : ℕ) → header_of s ≡ Err (misfit p) → p ≡ cond (cut_off s) (length s) 0
 header_place = head_place
 
 module _ (s : List ℕ) where
@@ -53,7 +51,7 @@ module _ (s : List ℕ) where
 -- ── the check ──
 module _ (q : Question) (name s : List ℕ) where
   -- for a question in range: refusal 3 with a place exactly if that is the first place that does not fit
-  pub three_at : InRange q name → (p : ℕ) → answer_of q name s ≡ refused_at 3 0 (At p) ↔ (length s ≤ 16384) × Least p (misfits s)
+  pub three_at : InRange q name → (p : ℕ) → answer_of q name s ≡ refused_at 3 0 (Some p) ↔ (length s ≤ 16384) × Least p (misfits s)
   three_at range p =
       let (to, from) = three_exactly q name s ((range_exactly q name).1 range) p in (
         λ e. let (le, r) = to e in (le, (place_least s p).0 r),
@@ -61,14 +59,14 @@ module _ (q : Question) (name s : List ℕ) where
       )
 
   -- for any question: an answer carries a place exactly so
-  pub place_carried : (p : ℕ) → (answer_of q name s).place ≡ At p ↔ InRange q name × (length s ≤ 16384) × Least p (misfits s)
+  pub place_carried : (p : ℕ) → (answer_of q name s).place ≡ Some p ↔ InRange q name × (length s ≤ 16384) × Least p (misfits s)
   place_carried p = (
     λ e. let (range, le, r) = (place_exactly q name s p).0 e in ((range_exactly q name).0 range, le, (place_least s p).0 r),
     λ (range, le, m). (place_exactly q name s p).1 ((range_exactly q name).1 range, le, (place_least s p).1 m),
   )
 
   -- refusal 3 carries a place, and an answer with a place is refusal 3
-  pub three_placed : ((p : ℕ) × ((answer_of q name s).place ≡ At p)) ↔ (answer_of q name s).verdict ≡ Refused 3 0
+  pub three_placed : ((p : ℕ) × ((answer_of q name s).place ≡ Some p)) ↔ (answer_of q name s).verdict ≡ Refused 3 0
   three_placed = (
     λ (p, e).
         let (range, le, r) = (place_exactly q name s p).0 e in
@@ -77,9 +75,9 @@ module _ (q : Question) (name s : List ℕ) where
   )
 
   -- every other answer carries none
-  pub others_placeless : ((answer_of q name s).verdict ≡ Refused 3 0 → ⊥) → (answer_of q name s).place ≡ Absent
+  pub others_placeless : ((answer_of q name s).verdict ≡ Refused 3 0 → ⊥) → (answer_of q name s).place ≡ None
   others_placeless h = go (answer_of q name s).place refl
     where
-      go : (x : Place) → (answer_of q name s).place ≡ x → x ≡ Absent
-      go Absent e = refl
-      go (At p) e = absurd (h (three_placed.0 (p, e)))
+      go : (x : Option ℕ) → (answer_of q name s).place ≡ x → x ≡ None
+      go None e = refl
+      go (Some p) e = absurd (h (three_placed.0 (p, e)))

@@ -5,22 +5,22 @@
 -- answer to octets (desk_question: Asked). A premise of the form `n ≡ ..` says what desk_misfit returns, and `after` what it
 -- leaves, as its contract tells (contracts: CFunctions).
 -- Assumes nothing.
-use Rattle.std.specs.Prelude.{ℕ, ◌≤◌, ◌↔◌, ◌≡◌, refl, Bool, true, false, List, [], length}
+use Rattle.std.specs.Prelude.{ℕ, ◌≤◌, ◌↔◌, ◌≡◌, refl, Bool, true, false, List, [], length, Some, Ok, Err}
 use Rattle.std.proofs.Common.{arith, ◌∙◌}
 use Rattle.std.proofs.Math.Path.{sym, ap}
 use Rattle.std.specs.Borrow.{Bor}
 use Rattle.octets.specs.SameLaws.{impossible}
+use Rattle.element.specs.Places.{misfit}
 use Rattle.faults.specs.Order.{Least}
 use Rattle.misfits.specs.Misfits.{misfits}
 use Rattle.misfits.proofs.Theorem.{place_least}
 use Rattle.answer.specs.Verdict.{refused}
-use Rattle.answer.specs.declared.Place.TheVariants.{At}
 use Rattle.read_content.specs.ExpectLaws.{never}
 use Rattle.read_response.specs.Parts.{judged_of}
 use Rattle.read_response.specs.Refusals.{refusal_of}
 use Rattle.read_response.proofs.OutcomeLaws.{unfit_judged}
-use Rattle.read_response.specs.declared.Judged.{Judged}
-use Rattle.read_response.specs.declared.Judged.TheVariants as judged
+use Rattle.read_response.specs.Judged.{Judged}
+use Rattle.read_response.specs.declared.Unread.TheVariants as unread
 use Rattle.show.specs.Shown.{entry_of}
 use Rattle.show.proofs.EntryLaws.{entry_refused}
 use Rattle.show.specs.declared.Entry.TheVariants as entry
@@ -34,26 +34,30 @@ use Rattle.desk_c.specs.EntryLaws.{entry_number_lem}
 use Rattle.promises.specs.Misfits.{no_misfit, place_carried}
 
 -- ── what is shown, and the walk ──
+-- it does not fit, at this place
+abbrev unfit_at : ℕ → Judged
+unfit_at p = Err (unread.Unfit (misfit p))
+
 -- a place goes with what does not fit, and with nothing else
-unfit_place : (j : Judged) (p : ℕ) → (refusal_of j).place ≡ At p ↔ j ≡ judged.Unfit p
+unfit_place : (j : Judged) (p : ℕ) → (refusal_of j).place ≡ Some p ↔ j ≡ unfit_at p
 unfolding refusal_of
-unfit_place (judged.Basic t) p = (λ e. never (cc e), λ e. never (cc e))
-unfit_place judged.TooLong p = (λ e. never (cc e), λ e. never (cc e))
-unfit_place (judged.Unfit k) p = (λ e. let i : k ≡ p = cc e in ap judged.Unfit i, λ e. let i : k ≡ p = cc e in ap At i)
-unfit_place (judged.Failed n) p = (λ e. never (cc e), λ e. never (cc e))
-unfit_place judged.OtherType p = (λ e. never (cc e), λ e. never (cc e))
+unfit_place (Ok t) p = (λ e. never (cc e), λ e. never (cc e))
+unfit_place (Err unread.TooLong) p = (λ e. never (cc e), λ e. never (cc e))
+unfit_place (Err (unread.Unfit k)) p = (λ e. let i : k.place ≡ p = cc e in ap unfit_at i, λ e. let i : k.place ≡ p = cc e in ap Some i)
+unfit_place (Err (unread.Failed n)) p = (λ e. never (cc e), λ e. never (cc e))
+unfit_place (Err unread.OtherType) p = (λ e. never (cc e), λ e. never (cc e))
 
 -- as has 3
-unfit_number : (j : Judged) → (refusal_of j).number ≡ 3 → (p : ℕ) × (j ≡ judged.Unfit p)
+unfit_number : (j : Judged) → (refusal_of j).number ≡ 3 → (p : ℕ) × (j ≡ unfit_at p)
 unfolding refusal_of
-unfit_number (judged.Basic t) e = absurd (omega arith)
-unfit_number judged.TooLong e = absurd (omega arith)
-unfit_number (judged.Unfit p) e = (p, refl)
-unfit_number (judged.Failed n) e = absurd (omega arith)
-unfit_number judged.OtherType e = absurd (omega arith)
+unfit_number (Ok t) e = absurd (omega arith)
+unfit_number (Err unread.TooLong) e = absurd (omega arith)
+unfit_number (Err (unread.Unfit p)) e = (p.place, refl)
+unfit_number (Err (unread.Failed n)) e = absurd (omega arith)
+unfit_number (Err unread.OtherType) e = absurd (omega arith)
 
 module _ (s : List ℕ) (p : ℕ) where
-  judged_at : judged_of s ≡ judged.Unfit p ↔ (length s ≤ 16384) × Least p (misfits s)
+  judged_at : judged_of s ≡ unfit_at p ↔ (length s ≤ 16384) × Least p (misfits s)
   judged_at =
       let (to, from) = unfit_judged s p in (
         λ e. let (le, r) = to e in (le, (place_least s p).0 r),
@@ -61,33 +65,33 @@ module _ (s : List ℕ) (p : ℕ) where
       )
 
   -- read_response::refuse
-  pub refusal_at : (refusal_of (judged_of s)).place ≡ At p ↔ (length s ≤ 16384) × Least p (misfits s)
+  pub refusal_at : (refusal_of (judged_of s)).place ≡ Some p ↔ (length s ≤ 16384) × Least p (misfits s)
   refusal_at = (λ e. judged_at.0 ((unfit_place (judged_of s) p).0 e), λ h. (unfit_place (judged_of s) p).1 (judged_at.1 h))
 
   -- show::entry_at, at every ordinal
-  pub entry_at : (k : ℕ) → entry_of s k ≡ entry.Refused 3 0 (At p) ↔ (length s ≤ 16384) × Least p (misfits s)
+  pub entry_at : (k : ℕ) → entry_of s k ≡ entry.Refused 3 0 (Some p) ↔ (length s ≤ 16384) × Least p (misfits s)
   unfolding refusal_of entry_number
   entry_at k = (
     λ e.
         let (n, i) = unfit_number (judged_of s) (sym (entry_number_lem s k) ∙ ap entry_number e) in
-        let h = sym (entry_refused s k (judged.Unfit n) i (λ t x. never (cc x))) ∙ e in
+        let h = sym (entry_refused s k (unfit_at n) i (λ t x. never (cc x))) ∙ e in
         let j : n ≡ p = cc h in
-        judged_at.0 (i ∙ ap judged.Unfit j),
-    λ h. entry_refused s k (judged.Unfit p) (judged_at.1 h) (λ t x. never (cc x)),
+        judged_at.0 (i ∙ ap unfit_at j),
+    λ h. entry_refused s k (unfit_at p) (judged_at.1 h) (λ t x. never (cc x)),
   )
 
 -- walk::next, from every place of a walk
-pub step_at : (r : Bor (List ℕ)) (k p : ℕ) → say_of (at r k) ≡ entry.Refused 3 0 (At p) ↔ (length r.now ≤ 16384) × Least p (misfits r.now)
+pub step_at : (r : Bor (List ℕ)) (k p : ℕ) → say_of (at r k) ≡ entry.Refused 3 0 (Some p) ↔ (length r.now ≤ 16384) × Least p (misfits r.now)
 step_at r k p = entry_at r.now p k
 
 -- ── octets ──
 -- the desk's answer to the octets of a question and of a response
-pub asked_at_lem : (q r : List ℕ) (p : ℕ) → (asked q r).place ≡ At p
+pub asked_at_lem : (q r : List ℕ) (p : ℕ) → (asked q r).place ≡ Some p
     ↔ (question_ok 20 q ≡ true) × InRange (question_in 20 q) (name_in 20 q) × (length r ≤ 16384) × Least p (misfits r)
 unfolding refused
 asked_at_lem q r p = go (question_ok 20 q) refl
   where
-    go : (t : Bool) → question_ok 20 q ≡ t → (asked q r).place ≡ At p
+    go : (t : Bool) → question_ok 20 q ≡ t → (asked q r).place ≡ Some p
         ↔ (t ≡ true) × InRange (question_in 20 q) (name_in 20 q) × (length r ≤ 16384) × Least p (misfits r)
     go true e =
         let (to, from) = place_carried (question_in 20 q) (name_in 20 q) r p in
@@ -115,19 +119,19 @@ misfit_answers s n before after i j =
       λ h. kept (judged_of s) h,
     )
   where
-    none : length s ≤ 16384 → ((p : ℕ) → judged_of s ≡ judged.Unfit p → ⊥) → misfits s ≡ []
+    none : length s ≤ 16384 → ((p : ℕ) → judged_of s ≡ unfit_at p → ⊥) → misfits s ≡ []
     none le f = (no_misfit s).0 (λ p r. f p ((unfit_judged s p).1 (le, r)))
 
     given : length s ≤ 16384 → (misfits s ≡ [] → ⊥) → (j : Judged) → judged_of s ≡ j → (refusal_of j).number ≡ 3
-    given le h (judged.Unfit p) e = refl
-    given le h (judged.Basic t) e = absurd (h (none le (λ p f. never (cc (e, f)))))
-    given le h judged.TooLong e = absurd (h (none le (λ p f. never (cc (e, f)))))
-    given le h (judged.Failed m) e = absurd (h (none le (λ p f. never (cc (e, f)))))
-    given le h judged.OtherType e = absurd (h (none le (λ p f. never (cc (e, f)))))
+    given le h (Err (unread.Unfit p)) e = refl
+    given le h (Ok t) e = absurd (h (none le (λ p f. never (cc (e, f)))))
+    given le h (Err unread.TooLong) e = absurd (h (none le (λ p f. never (cc (e, f)))))
+    given le h (Err (unread.Failed m)) e = absurd (h (none le (λ p f. never (cc (e, f)))))
+    given le h (Err unread.OtherType) e = absurd (h (none le (λ p f. never (cc (e, f)))))
 
     kept : (j : Judged) → ((refusal_of j).number ≡ 3 → ⊥) → place_over (refusal_of j).place before ≡ before
-    kept (judged.Basic t) h = refl
-    kept judged.TooLong h = refl
-    kept (judged.Unfit p) h = absurd (h refl)
-    kept (judged.Failed m) h = refl
-    kept judged.OtherType h = refl
+    kept (Ok t) h = refl
+    kept (Err unread.TooLong) h = refl
+    kept (Err (unread.Unfit p)) h = absurd (h refl)
+    kept (Err (unread.Failed m)) h = refl
+    kept (Err unread.OtherType) h = refl

@@ -4,7 +4,7 @@
 -- `reading` is what a list of octets says, `der` the DER form of a reading (layout: Read), `Within` the limits by a
 -- reading's own fields (layout: Limits), `judged_of` what read_response::judge answers (response: Parts).
 -- Assumes nothing.
-use Rattle.std.specs.Prelude.{ℕ, ◌≤◌, ◌↔◌, ◌≡◌, refl, List, [], ◌∷◌, length}
+use Rattle.std.specs.Prelude.{ℕ, ◌≤◌, ◌↔◌, ◌≡◌, refl, List, [], ◌∷◌, length, Ok, Err}
 use Rattle.std.proofs.Common.{arith, sym, ap, ◌∙◌}
 use Rattle.octets.specs.Octets.{Octets}
 use Rattle.layout.specs.Reading.{Reading, Basic, failed, basic}
@@ -17,7 +17,7 @@ use Rattle.read_response.specs.Parts.{judged_of, parts_in}
 use Rattle.read_response.proofs.JudgedLaws.{judged_basic, basic_judged}
 use Rattle.read_response.proofs.OutcomeLaws.{failed_judged}
 use Rattle.read_response.specs.declared.Parts.{Parts}
-use Rattle.read_response.specs.declared.Judged.TheVariants as judged
+use Rattle.read_response.specs.declared.Unread.TheVariants as unread
 
 -- ── the first half: octets with a reading are its DER form ──
 
@@ -54,7 +54,7 @@ error_form n = refl
 -- read_response::judge calls a response basic exactly when it is the DER form of a basic reading within the limits, of at
 -- most 16,384 octets
 pub basic_exactly : (s : List ℕ) → Octets s
-    → ((t : Parts) × (judged_of s ≡ judged.Basic t))
+    → ((t : Parts) × (judged_of s ≡ Ok t))
     ↔ ((b : Basic) × BasicOk b × (length (der (basic b)) ≤ 16384) × (s ≡ der (basic b)))
 basic_exactly s o = (
   λ (t, e).
@@ -66,7 +66,7 @@ basic_exactly s o = (
 
 -- and an error response exactly when it is 30 03 0A 01 and a status 1, 2, 3, 5 or 6
 pub error_exactly : (s : List ℕ) (n : ℕ) → Octets s
-    → judged_of s ≡ judged.Failed n ↔ FailureOk n × (s ≡ 0x30 ∷ 0x03 ∷ 0x0a ∷ 0x01 ∷ n ∷ [])
+    → judged_of s ≡ Err (unread.Failed n) ↔ FailureOk n × (s ≡ 0x30 ∷ 0x03 ∷ 0x0a ∷ 0x01 ∷ n ∷ [])
 error_exactly s n o = (
   λ e. let (w, i) = sound s (failed n) o ((failed_judged s n).0 e).1 in (w, i ∙ error_form n),
   λ (w, i).

@@ -4,7 +4,7 @@
 -- behind it are of the n returned and the buffer `left` as it is left. `Octets s` is what the type of a lent slice says of it. The
 -- definitions under those premises are in desk_c: Papers, and in desk_question: Asked.
 -- Assumes nothing.
-use Rattle.std.specs.Prelude.{ℕ, ◌+◌, ◌≤◌, ◌<◌, ◌↔◌, ◌≡◌, true, false, List, ◌++◌, length, drop}
+use Rattle.std.specs.Prelude.{ℕ, ◌≤◌, ◌<◌, ◌↔◌, ◌≡◌, true, false, List, ◌++◌, length, drop}
 use Rattle.std.proofs.Common.{arith, ◌∙◌, lt-ltb, le-ltb}
 use Rattle.octets.specs.Octets.{Octets}
 use Rattle.octets.specs.Buffer.{put_in, put_size}

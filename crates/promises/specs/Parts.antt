@@ -4,9 +4,10 @@
 -- at the place `at` are x, and end inside s (response: Stands); NAME `.enc` is the form of a part (layout: Format), `forms`
 -- forms one after the other, `option_enc` a form or nothing (codec: Many, Option).
 -- Assumes nothing.
-use Rattle.std.specs.Prelude.{ℕ, ◌+◌, ◌≤◌, ◌↔◌, ◌≡◌, refl, List, length, take, drop}
+use Rattle.std.specs.Prelude.{ℕ, ◌+◌, ◌≤◌, ◌↔◌, ◌≡◌, refl, List, length, take, drop, Ok}
 use Rattle.std.proofs.Common.{ap, ◌∙◌}
 use Rattle.octets.specs.Octets.{Octets}
+use Rattle.element.specs.declared.Span.{Span}
 use Rattle.codec.specs.Option.{option_enc}
 use Rattle.codec.specs.Many.{forms}
 use Rattle.layout.specs.Reading.{Basic, basic}
@@ -17,9 +18,7 @@ use Rattle.read_response.specs.Parts.{parts_from, judged_of, parts_in}
 use Rattle.read_response.specs.Stands.{Stands}
 use Rattle.read_response.proofs.PartsLaws as parts
 use Rattle.read_response.proofs.JudgedLaws.{judged_basic}
-use Rattle.read_response.specs.declared.Span.{Span}
 use Rattle.read_response.specs.declared.Parts.{Parts}
-use Rattle.read_response.specs.declared.Judged.TheVariants as judged
 
 -- octets stand at a place: from its start on, as many as its length, they are these, and they end inside the response
 pub stands_in_full : (s : List ℕ) (at : Span) (x : List ℕ)
@@ -40,7 +39,7 @@ placed s part p q x i h = rw i h
 -- part and the responder id, header included; the entries, one after the other, and as many as the count says; the
 -- response's extensions, header included, or nothing; the signature's algorithm, header included; the signature, without
 -- its 00; and the certificates, header included, or nothing
-pub parts_stand : (s : List ℕ) → Octets s → (p : Parts) → judged_of s ≡ judged.Basic p
+pub parts_stand : (s : List ℕ) → Octets s → (p : Parts) → judged_of s ≡ Ok p
     → (length s ≤ 16384)
     × ((b : Basic)
     × (reading s ≡ reads (basic b))

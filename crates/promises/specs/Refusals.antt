@@ -4,7 +4,7 @@
 -- table; refused_exactly, handed_out, empty_card_lem, error_status; never_revoked, always_answered, out_of_range.
 -- `tests` is the table from 1 to 16 as data, of a case: question, Name, size and what the octets read as (rules: Order).
 -- Assumes nothing.
-use Rattle.std.specs.Prelude.{ℕ, ◌≤◌, ◌<◌, ◌⊎◌, ◌↔◌, ◌≡◌, refl, true, false, ◌&&◌, not, List, [], ◌∷◌, ltb, eqb, replicate}
+use Rattle.std.specs.Prelude.{ℕ, ◌≤◌, ◌<◌, ◌⊎◌, ◌↔◌, ◌≡◌, refl, true, false, ◌&&◌, not, List, [], ◌∷◌, ltb, eqb, replicate, Option, Some, None}
 use Rattle.octets.specs.Octets.{Octets}
 use Rattle.layout.specs.Reading.{Entry, Basic, failed}
 use Rattle.layout.specs.Read.{reads, unfit}
@@ -12,9 +12,7 @@ use Rattle.layout.proofs.Read.{reading}
 use Rattle.layout.specs.Limits.{FailureOk}
 use Rattle.answer.specs.Card.{empty_card}
 use Rattle.answer.specs.Verdict.{refused}
-use Rattle.answer.specs.declared.Reason.{Reason}
 use Rattle.answer.specs.declared.Verdict.TheVariants.{Good, Revoked, Unknown, Refused}
-use Rattle.answer.specs.declared.Place.TheVariants.{At, Absent}
 use Rattle.rules.specs.declared.Question.{Question}
 use Rattle.rules.specs.Question.{in_range}
 use Rattle.rules.specs.Signer.{is_signer, in_response, in_entry, strange_in}
@@ -60,8 +58,8 @@ module _ (q : Question) (name s : List ℕ) where
       × (1 ≤ n) × (n ≤ 16)
       × (n ≡ 4 → reading s ≡ reads (failed status))
       × ((n ≡ 4 → ⊥) → status ≡ 0)
-      × (n ≡ 3 → (p : ℕ) × (reading s ≡ unfit p) × ((answer_of q name s).place ≡ At p))
-      × ((n ≡ 3 → ⊥) → (answer_of q name s).place ≡ Absent)
+      × (n ≡ 3 → (p : ℕ) × (reading s ≡ unfit p) × ((answer_of q name s).place ≡ Some p))
+      × ((n ≡ 3 → ⊥) → (answer_of q name s).place ≡ None)
   handed_out n status v =
       let r = ruling.refusal_whole q name s n status v in
       (r.card, r.least, r.most, r.four, r.other, r.three, r.placeless)
@@ -74,7 +72,7 @@ module _ (q : Question) (name s : List ℕ) where
   pub never_revoked : (n : ℕ) → (n ≡ 0 → ⊥) → first_of (tests (case_of q name s)) ≡ n
       → ((status : ℕ) × IsRefusal s (answer_of q name s) n status)
       × ((this next : ℕ) → (answer_of q name s).verdict ≡ Good this next → ⊥)
-      × ((this next at : ℕ) (reason : Reason) → (answer_of q name s).verdict ≡ Revoked this next at reason → ⊥)
+      × ((this next at : ℕ) (reason : Option ℕ) → (answer_of q name s).verdict ≡ Revoked this next at reason → ⊥)
       × ((this next : ℕ) → (answer_of q name s).verdict ≡ Unknown this next → ⊥)
   never_revoked = ruling.refusal_not_revoked q name s
 

@@ -3,7 +3,7 @@
 -- `signed_of` and `signature_of` are what show::signed_part and show::signature return (response: Shown);
 -- `Stands s at x`: the octets of s at the place `at` are x, and end inside s (response: Stands).
 -- Assumes nothing.
-use Rattle.std.specs.Prelude.{ℕ, ◌≤◌, ◌≡◌, refl, List, [], ◌∷◌, length}
+use Rattle.std.specs.Prelude.{ℕ, ◌≤◌, ◌≡◌, refl, List, [], ◌∷◌, length, Ok, Err}
 use Rattle.octets.specs.Octets.{Octets}
 use Rattle.element.specs.Form.{form_of}
 use Rattle.layout.specs.Reading.{Basic, basic}
@@ -16,8 +16,8 @@ use Rattle.read_response.proofs.PartsLaws.{signed_stands, signature_stands}
 use Rattle.show.specs.Shown.{signed_in, signed_of, signature_in, signature_of}
 use Rattle.show.proofs.ShownLaws.{signed_shown, signature_shown}
 use Rattle.read_response.specs.declared.Parts.{Parts}
-use Rattle.read_response.specs.declared.Judged.{Judged}
-use Rattle.read_response.specs.declared.Judged.TheVariants as judged
+use Rattle.read_response.specs.Judged.{Judged}
+use Rattle.read_response.specs.declared.Unread.TheVariants as unread
 
 module _ (s : List ℕ) (b : Basic) (o : Octets s) (le : length s ≤ 16384) (e : reading s ≡ reads (basic b)) where
   -- of a response that reads as a basic one, the signed part that is shown is its form, header included, and those are
@@ -40,13 +40,13 @@ unfolding signature_bits
 signature_header b = refl
 
 -- a response with a refusal from 2 to 5 shows nothing, in both
-pub refused_empty : (s : List ℕ) → ((t : Parts) → judged_of s ≡ judged.Basic t → ⊥) → (signed_of s ≡ []) × (signature_of s ≡ [])
+pub refused_empty : (s : List ℕ) → ((t : Parts) → judged_of s ≡ Ok t → ⊥) → (signed_of s ≡ []) × (signature_of s ≡ [])
 unfolding signed_of signed_in signature_of signature_in
 refused_empty s other = go (judged_of s) refl
   where
     go : (j : Judged) → judged_of s ≡ j → (signed_in s j ≡ []) × (signature_in s j ≡ [])
-    go (judged.Basic p) i = absurd (other p i)
-    go judged.TooLong i = (refl, refl)
-    go (judged.Unfit p) i = (refl, refl)
-    go (judged.Failed n) i = (refl, refl)
-    go judged.OtherType i = (refl, refl)
+    go (Ok p) i = absurd (other p i)
+    go (Err unread.TooLong) i = (refl, refl)
+    go (Err (unread.Unfit p)) i = (refl, refl)
+    go (Err (unread.Failed n)) i = (refl, refl)
+    go (Err unread.OtherType) i = (refl, refl)

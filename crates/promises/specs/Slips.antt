@@ -5,7 +5,7 @@
 -- `output_of` and `output_in` are what slip_write::write_slip answers and leaves in the lent buffer (fields: Output).
 -- `Hashed 20 a`: where the slip of a has a card, its hashes and its serial's field have 20 octets, as every card of the code has.
 -- Assumes nothing.
-use Rattle.std.specs.Prelude.{ℕ, ◌≤◌, ◌<◌, ◌↔◌, ◌≡◌, true, false, length, drop}
+use Rattle.std.specs.Prelude.{ℕ, ◌≤◌, ◌<◌, ◌↔◌, ◌≡◌, true, false, length, drop, Option}
 use Rattle.std.proofs.Common.{arith}
 use Rattle.std.proofs.Math.Path.{refl}
 use mathlib.Core.List.{List, [], ◌∷◌, ◌++◌, flatten, append_assoc}
@@ -13,7 +13,6 @@ use Rattle.octets.specs.Octets.{Octets}
 use Rattle.octets.specs.Number.{octets_of}
 use Rattle.answer.specs.Verdict.{kind_of, reason_of, saying, without_place, refused}
 use Rattle.answer.specs.declared.Card.{Card}
-use Rattle.answer.specs.declared.Reason.{Reason}
 use Rattle.answer.specs.declared.Verdict.TheVariants.{Good, Revoked, Unknown, Refused}
 use Rattle.answer.specs.declared.Answer.{Answer}
 use Rattle.fields.specs.Output.{output_of, output_in}
@@ -38,7 +37,7 @@ module _ (card : Card) (this next : ℕ) where
   unknown_slip = simp append_assoc
 
   -- 02 revoked: the same, revocationTime 8, reason 1, FF if absent
-  pub revoked_slip : (at : ℕ) (reason : Reason) → slip_of (saying (Revoked this next at reason) card)
+  pub revoked_slip : (at : ℕ) (reason : Option ℕ) → slip_of (saying (Revoked this next at reason) card)
       ≡ 2 ∷ flatten (card.name ∷ card.key ∷ octets_of 1 card.size ∷ card.serial ∷ octets_of 8 this ∷ octets_of 8 next ∷ octets_of 8 at ∷ octets_of 1 (reason_of reason) ∷ [])
   unfolding slip_computes
   revoked_slip at reason = simp append_assoc

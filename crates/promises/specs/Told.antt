@@ -1,10 +1,10 @@
--- What the functions that answer with an enum say, by document 01's numbers (Numbers): the entries one by one, the search for a
+-- What the functions that answer in cases say, by document 01's numbers (Numbers): the entries one by one, the search for a
 -- card's entry, and the response judged for a question.
 -- entry_told_lem; found_told_lem; opened_told_lem. The response judged alone is in ForC, times are in Rows, the writers in Buffers.
 -- `entry_of` is what show::entry_at answers (show: Shown), `found_of` what rule_search::search answers of entries that are read, and
 -- `for_card` the entries for a card, in order (search: Search), `opened_of` what rule_response::open answers (opened: Opened).
 -- Assumes nothing.
-use Rattle.std.specs.Prelude.{ℕ, ◌↔◌, ◌≡◌, refl, List, [], ◌∷◌}
+use Rattle.std.specs.Prelude.{ℕ, ◌↔◌, ◌≡◌, refl, List, [], ◌∷◌, Ok, Err}
 use Rattle.std.proofs.Common.{arith, ap, ◌∙◌}
 use Rattle.octets.specs.Octets.{Octets}
 use Rattle.layout.specs.Reading as layout
@@ -25,9 +25,7 @@ use Rattle.rules.specs.declared.Question.{Question}
 use Rattle.rules.specs.Accepted.{InRange}
 use Rattle.rules.proofs.AcceptedLaws.{range_exactly}
 use Rattle.rules.specs.Ruling.{answer_of}
-use Rattle.rule_response.specs.Opened.{opened_of}
-use Rattle.rule_response.specs.declared.Opened.{Opened}
-use Rattle.rule_response.specs.declared.Opened.TheVariants as opened
+use Rattle.rule_response.specs.Opened.{Opened, opened_of}
 use Rattle.rule_check.specs.CardRuled.{opened_ruled}
 use Rattle.rule_check.specs.CheckLaws.{check_by_parts}
 use Rattle.desk_c.specs.Places.{entry_number}
@@ -84,5 +82,5 @@ opened_told_lem q name s range o h k z told i n =
     check_by_parts q name s ((range_exactly q name).1 range) o (record { name = h; key = k; serial = z }) ∙ go (opened_of q name s) i
   where
     go : (x : Opened) → told ≡ opened_told x → opened_ruled q s x ≡ refused_at told.number told.status (opened_place x)
-    go (opened.Refused number status place) j = rw j
-    go (opened.Clear start len) j = absurd (n (ap (λ (t : Told). t.number) j))
+    go (Err r) j = rw j
+    go (Ok v) j = absurd (n (ap (λ (t : Told). t.number) j))

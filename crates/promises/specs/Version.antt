@@ -7,10 +7,11 @@
 -- `form_of` is an element, its tag, its length and its content (element: Form).
 -- One reading, one string of octets: OneReading has it of all readings, those with a version written among them.
 -- Assumes nothing.
-use Rattle.std.specs.Prelude.{ℕ, ◌-◌, ◌≤◌, ◌↔◌, ◌≡◌, Bool, true, false, List, [], ◌∷◌, ◌++◌, length, take, drop}
+use Rattle.std.specs.Prelude.{ℕ, ◌-◌, ◌≤◌, ◌↔◌, ◌≡◌, Bool, true, false, List, [], ◌∷◌, ◌++◌, length, take, drop, Some, Err}
 use Rattle.std.proofs.Common.{sym, ap, ◌∙◌, le-ltb}
 use Rattle.octets.specs.Octets.{Octets}
 use Rattle.octets.specs.SameLaws.{impossible}
+use Rattle.element.specs.Places.{misfit}
 use Rattle.element.specs.Form.{form_of}
 use Rattle.codec.specs.Codec.{read, got}
 use Rattle.codec.specs.Starts.{starts_with}
@@ -24,10 +25,9 @@ use Rattle.layout.proofs.Theorem.{sound, complete}
 use Rattle.layout.proofs.VersionLaws as laws
 use Rattle.layout.proofs.OtherVersionLaws as others
 use Rattle.answer.specs.Verdict.{refused_at}
-use Rattle.answer.specs.declared.Place.TheVariants.{At}
 use Rattle.read_response.specs.Parts.{judged_of}
 use Rattle.read_response.proofs.OutcomeLaws.{unfit_judged}
-use Rattle.read_response.specs.declared.Judged.TheVariants as judged
+use Rattle.read_response.specs.declared.Unread.TheVariants as unread
 use Rattle.rules.specs.declared.Question.{Question}
 use Rattle.rules.specs.Accepted.{InRange}
 use Rattle.rules.proofs.AcceptedLaws.{range_exactly}
@@ -113,9 +113,9 @@ module _ (w z x y s : List ℕ) (other : w ≡ 0x00 ∷ [] → ⊥) (o : Octets 
   place = length s - length (form_of 0x02 w ++ (z ++ (x ++ y)))
 
   -- does not fit, and the place is that INTEGER
-  pub another_version : (judged_of s ≡ judged.Unfit place) × (drop place s ≡ form_of 0x02 w ++ (z ++ (x ++ y)))
+  pub another_version : (judged_of s ≡ Err (unread.Unfit (misfit place))) × (drop place s ≡ form_of 0x02 w ++ (z ++ (x ++ y)))
   another_version = ((unfit_judged s place).1 (le, others.another_place w z x y other s o le (same ∙ sym (success_form _ _))), others.another_stands w z x y other s (same ∙ sym (success_form _ _)))
 
   -- so a question in range gets 3, with that place
-  pub another_refused : (q : Question) (name : List ℕ) → InRange q name → answer_of q name s ≡ refused_at 3 0 (At place)
+  pub another_refused : (q : Question) (name : List ℕ) → InRange q name → answer_of q name s ≡ refused_at 3 0 (Some place)
   another_refused q name range = (three_exactly q name s ((range_exactly q name).1 range) place).1 (le, others.another_place w z x y other s o le (same ∙ sym (success_form _ _)))

@@ -4,7 +4,7 @@
 -- `start_of`; of a step by walk::next `say_of` is what it says, `hand_of` what it hands out, and `moved_of` the walk after it
 -- (walked: Walked); `handed n w` is what n steps from w hand out, in order, and `after n w` the walk then (walked: Handed).
 -- Assumes nothing.
-use Rattle.std.specs.Prelude.{ℕ, ◌≤◌, ◌≡◌, List, [], map, length, take}
+use Rattle.std.specs.Prelude.{ℕ, ◌≤◌, ◌≡◌, List, [], map, length, take, Ok}
 use Rattle.std.specs.Borrow.{Bor}
 use Rattle.octets.specs.Octets.{Octets}
 use Rattle.codec.specs.Many.{forms}
@@ -16,8 +16,7 @@ use Rattle.read_response.specs.Parts.{judged_of, parts_in}
 use Rattle.read_response.specs.Refusals.{refusal_of}
 use Rattle.show.specs.Shown.{octets_in, refused_entry}
 use Rattle.read_response.specs.declared.Parts.{Parts}
-use Rattle.read_response.specs.declared.Judged.{Judged}
-use Rattle.read_response.specs.declared.Judged.TheVariants as judged
+use Rattle.read_response.specs.Judged.{Judged}
 use Rattle.show.specs.declared.Entry.TheVariants as entry
 use Rattle.walk_rules.specs.Walked.{start_of, say_of, hand_of, moved_of}
 use Rattle.walk_rules.specs.Handed.{at, handed, after_steps}
@@ -49,7 +48,7 @@ module _ (r : Bor (List ℕ)) (b : Basic) (o : Octets r.now) (le : length r.now 
   whole_list = walk.parts_there r b o le e
 
 -- ── a lent response r with a refusal from 2 to 5 ──
-module _ (r : Bor (List ℕ)) (j : Judged) (e : judged_of r.now ≡ j) (other : (t : Parts) → j ≡ judged.Basic t → ⊥) where
+module _ (r : Bor (List ℕ)) (j : Judged) (e : judged_of r.now ≡ j) (other : (t : Parts) → j ≡ Ok t → ⊥) where
   -- its number is from 2 to 5
   pub refusal_number : (2 ≤ (refusal_of j).number) × ((refusal_of j).number ≤ 5)
   refusal_number = walk.refusal_number r j e other

@@ -2,7 +2,7 @@
 -- usual, its value; starts_usual; usual_other, usual_cut, usual_same: whether a list starts
 -- with them, as code tests it; usual_read: a list that starts with them reads as this value.
 -- Assumes nothing.
-use Rattle.std.specs.Prelude.{ℕ, ◌-◌, ◌^◌, ◌<◌, ◌≡◌, Bool}
+use Rattle.std.specs.Prelude.{ℕ, ◌-◌, ◌^◌, ◌<◌, ◌≡◌, Bool, Ok}
 use Rattle.std.proofs.Common.{arith, ◌∙◌, lit<, take-append-drop, get_or-take}
 use Rattle.std.proofs.Math.Path.{refl, sym, ap}
 use Rattle.std.proofs.Math.Bool.{true, false}
@@ -18,7 +18,6 @@ use Rattle.content.specs.Oid.{oid_ok, oid_from}
 use Rattle.codec.specs.Codec.{got}
 use Rattle.codec.specs.Tree.{prim, TreeOk, depth, tree_enc}
 use Rattle.codec.specs.Views.{step_of}
-use Rattle.codec.specs.declared.Step.TheVariants.{Taken}
 use Rattle.layout.specs.Reading.{Algorithm}
 use Rattle.layout.specs.Limits.{AlgorithmOk}
 use Rattle.layout.proofs.PartLimitsLaws.{algorithm_limits}
@@ -72,7 +71,7 @@ module _ (s : List ℕ) where
   unfolding starts_usual
   usual_same z q = q
 
-  pub usual_read : (z : Bool) → z ≡ starts_usual s → z ≡ true → Taken 11 ≡ step_of (algorithm_identifier.dec s)
+  pub usual_read : (z : Bool) → z ≡ starts_usual s → z ≡ true → Ok 11 ≡ step_of (algorithm_identifier.dec s)
   unfolding starts_usual step_of
   usual_read z q y =
       let e : take 11 s ≡ null_head = same_true (take 11 s) null_head (sym q ∙ y) in

@@ -4,71 +4,77 @@ use Prim.Native.Nat.{ℕ, ◌+◌, ◌-◌, ◌^◌, ◌≤◌, ◌<◌}
 use native.Mathlib.Omega.{arith}
 use mathlib.Core.Path.{◌≡◌, refl, sym, ◌∙◌}
 use mathlib.Core.List.{List}
-use lib.ListN.{length, take, drop, length-append}
-use mir.Syntax.{w64}
-use mir.Val.{Fits}
+use Rattle.std.specs.Prelude.{cond, Ok, Err}
+use lib.ListN.{length, take, drop, length-append, length-drop}
 use Rattle.octets.specs.LentLaws.{Known, known_octets, rest_is}
-use Rattle.codec.specs.Codec.{got}
-use Rattle.codec.proofs.CodecLaws.{got_size, after_place}
+use Rattle.element.specs.Places.{misfit}
+use Rattle.element.specs.declared.Misfit.{Misfit}
+use Rattle.element.specs.declared.Span.{Span}
+use Rattle.codec.specs.Codec.{broke, got}
+use Rattle.codec.proofs.CodecLaws.{got_size}
 use Rattle.codec.specs.Sequence.{field_dec}
-use Rattle.codec.specs.Views.{fit_of}
+use Rattle.codec.specs.Starts.{starts_with}
+use Rattle.codec.specs.Steps.{Fit}
+use Rattle.codec.specs.Views.{step_of, fit_of}
 use Rattle.codec.proofs.ViewLaws.{fit_fits, fit_breaks}
-use Rattle.codec.specs.declared.Fit.{Fit}
-use Rattle.codec.specs.declared.Fit.TheVariants as fit
-use Rattle.layout.proofs.Format.{algorithm_identifier, signature_bits}
+use Rattle.layout.proofs.Format.{algorithm_identifier, signature_bits, certificates, certificates_start}
 use Rattle.read_content.specs.Spots.{spot_of}
 use Rattle.read_content.specs.LastLaws.{last_bits}
 use Rattle.read_content.specs.SpotLaws.{spot_reads, spot_wrong}
-use Rattle.read_content.specs.declared.Spot.{Spot}
-use Rattle.read_content.specs.declared.Spot.TheVariants as spot
-use Rattle.read_basic.specs.Views.{certificates_on, signature_on, algorithm_on, signature_spot, tail_of}
-use Rattle.read_basic.specs.MoreLaws.{More}
+use Rattle.read_sequence.specs.Judged.{filled_by}
+use Rattle.read_sequence.specs.ViewLaws.{fit_optional}
+use Rattle.read_basic.specs.Views.{tail, certificates_on, signature_on, algorithm_on, signature_spot, tail_of}
+use Rattle.read_basic.specs.MoreLaws.{More, more_wrong, more_end, more_place, more_broken, more_start, more_moved}
 use Rattle.read_basic.specs.declared.Tail.{Tail}
-use Rattle.read_basic.specs.declared.Tail.TheVariants as tail
+
+-- ── maybe certificates, by the first octet ──
+pub certificates_is : (s : List ℕ) → fit_of (certificates_on.dec s) ≡ filled_by (length s) (cond (starts_with 0xa0 s) (step_of (certificates.dec s)) (Ok 0))
+unfolding certificates_on
+certificates_is s = fit_optional 0xa0 certificates certificates_start s
 
 -- ── the signature, then maybe certificates ──
-module _ (s : List ℕ) (x : Spot) (q : x ≡ spot_of (signature_bits.dec s)) where
-  pub signature_wrong : (p : ℕ) → x ≡ spot.Wrong p → spot.Wrong p ≡ signature_spot (signature_on.dec s)
+module _ (s : List ℕ) where
+  pub signature_err : (p : Misfit) → spot_of (signature_bits.dec s) ≡ Err p → signature_spot (signature_on.dec s) ≡ Err p
   unfolding signature_spot signature_on field_dec
-  signature_wrong p f = rw (spot_wrong signature_bits s p (sym q ∙ f)).0
+  signature_err p f = rw (spot_wrong signature_bits s p.place f).0
 
-  module _ (b l : ℕ) (f : x ≡ spot.At b l) where
-    bits : (signature_bits.dec s ≡ got (take l (drop b s)) (b + l)) × (length (take l (drop b s)) ≡ l) × (b + l ≤ length s)
-    bits = spot_reads signature_bits last_bits s b l (sym q ∙ f)
+  module _ (v : Span) (f : spot_of (signature_bits.dec s) ≡ Ok v) where
+    bits : (signature_bits.dec s ≡ got (take v.len (drop v.start s)) (v.start + v.len)) × (length (take v.len (drop v.start s)) ≡ v.len) × (v.start + v.len ≤ length s)
+    bits = spot_reads signature_bits last_bits s v.start v.len f
 
-    signature_end_lem : b + l ≤ length s
-    signature_end_lem = bits.2
+    pub signature_end : v.start + v.len ≤ length s
+    signature_end = bits.2
 
-    module _ (y : Fit) (c : y ≡ fit_of (certificates_on.dec (take (length s - (b + l)) (drop (b + l) s)))) where
-      certificates_are : fit_of (certificates_on.dec (drop (b + l) s)) ≡ y
-      certificates_are = rw (rest_is (b + l) s) at (sym c)
+    -- what follows it, as the code lends it
+    certificates_as : (z : Fit) → fit_of (certificates_on.dec (take (length s - (v.start + v.len)) (drop (v.start + v.len) s))) ≡ z
+        → fit_of (certificates_on.dec (drop (v.start + v.len) s)) ≡ z
+    certificates_as z c = rw (rest_is (v.start + v.len) s) at c
 
-      pub certificates_place : (p : ℕ) → y ≡ fit.Breaks p → length s < 2 ^ 64 → Fits w64 (b + l + p)
-      certificates_place p g = after_place certificates_on (b + l) s p (fit_breaks certificates_on (drop (b + l) s) p (certificates_are ∙ g)).0 signature_end_lem
+    module _ (p : Misfit) (c : fit_of (certificates_on.dec (take (length s - (v.start + v.len)) (drop (v.start + v.len) s))) ≡ Err p) where
+      certificates_bad : (certificates_on.dec (drop (v.start + v.len) s) ≡ broke p.place) × (p.place ≤ length (drop (v.start + v.len) s))
+      certificates_bad = fit_breaks certificates_on (drop (v.start + v.len) s) p.place (certificates_as (Err p) c)
 
-      pub certificates_wrong : (p : ℕ) → y ≡ fit.Breaks p → spot.Wrong (b + l + p) ≡ signature_spot (signature_on.dec s)
+      pub certificates_place : v.start + v.len + p.place ≤ length s
+      certificates_place = omega (arith, bits.2, certificates_bad.1, length-drop (v.start + v.len) s)
+
+      pub certificates_broken : signature_spot (signature_on.dec s) ≡ Err (misfit (v.start + v.len + p.place))
       unfolding signature_spot signature_on field_dec
-      certificates_wrong p g = rw (bits.0, (fit_breaks certificates_on (drop (b + l) s) p (certificates_are ∙ g)).0)
+      certificates_broken = rw (bits.0, certificates_bad.0)
 
-      pub signature_found : Known s → y ≡ fit.Fits → spot.At b l ≡ signature_spot (signature_on.dec s)
-      unfolding signature_spot signature_on field_dec
-      signature_found k g =
-          let size = got_size signature_bits s (take l (drop b s)) (b + l) (known_octets s k) bits.0 in
-          let i : b + l - l ≡ b = omega arith in
-          rw (bits.0, (fit_fits certificates_on (drop (b + l) s) (certificates_are ∙ g)).1, size, bits.1, i)
+    pub signature_found : Known s → (u : Unit) → fit_of (certificates_on.dec (take (length s - (v.start + v.len)) (drop (v.start + v.len) s))) ≡ Ok u
+        → signature_spot (signature_on.dec s) ≡ Ok v
+    unfolding signature_spot signature_on field_dec
+    signature_found k u c =
+        let size = got_size signature_bits s (take v.len (drop v.start s)) (v.start + v.len) (known_octets s k) bits.0 in
+        let i : v.start + v.len - v.len ≡ v.start = omega arith in
+        rw (bits.0, (fit_fits certificates_on (drop (v.start + v.len) s) (certificates_as (Ok u) c)).1, size, bits.1, i)
 
 -- ── the algorithm, then the rest ──
--- where the signature starts, or the place that is wrong
-abbrev pub place : Spot → ℕ
-place (spot.At b l) = b
-place (spot.Wrong p) = p
-
 -- after an algorithm of n octets
-abbrev pub moved : ℕ → Spot → Tail
-moved n (spot.At b l) = tail.Holds n (n + b) l
-moved n (spot.Wrong p) = tail.Broken (n + p)
+abbrev pub moved : ℕ → Span → Tail
+moved n v = tail n (n + v.start) v.len
 
-pub algorithm_more : More algorithm_identifier signature_on signature_spot (λ s. tail_of (algorithm_on.dec s)) tail.Broken moved place
+pub algorithm_more : More algorithm_identifier signature_on signature_spot (λ s. tail_of (algorithm_on.dec s)) moved (λ v. v.start)
 unfolding algorithm_on signature_on signature_spot tail_of
 algorithm_more = record {
   both = tail_of;
@@ -79,3 +85,28 @@ algorithm_more = record {
   holds_in = λ b. simp length-append (omega arith);
   breaks_in = λ p. omega arith;
 }
+
+module _ (s : List ℕ) where
+  pub algorithm_err : (p : Misfit) → step_of (algorithm_identifier.dec s) ≡ Err p → tail_of (algorithm_on.dec s) ≡ Err p
+  algorithm_err = more_wrong algorithm_more s
+
+  module _ (n : ℕ) (f : step_of (algorithm_identifier.dec s) ≡ Ok n) where
+    pub algorithm_end : n ≤ length s
+    algorithm_end = more_end algorithm_more s n f
+
+    module _ (known : Known s) where
+      pub algorithm_place : (p : Misfit) → signature_spot (signature_on.dec (take (length s - n) (drop n s))) ≡ Err p → n + p.place ≤ length s
+      algorithm_place = more_place algorithm_more s n f known
+
+      pub algorithm_broken : (p : Misfit) → signature_spot (signature_on.dec (take (length s - n) (drop n s))) ≡ Err p → tail_of (algorithm_on.dec s) ≡ Err (misfit (n + p.place))
+      algorithm_broken = more_broken algorithm_more s n f known
+
+      pub algorithm_start : (k : Span) → signature_spot (signature_on.dec (take (length s - n) (drop n s))) ≡ Ok k → n + k.start ≤ length s
+      algorithm_start = more_start algorithm_more s n f known
+
+      pub algorithm_found : (k : Span) → signature_spot (signature_on.dec (take (length s - n) (drop n s))) ≡ Ok k → tail_of (algorithm_on.dec s) ≡ Ok (tail n (n + k.start) k.len)
+      algorithm_found = more_moved algorithm_more s n f known
+
+pub ruleset signature_cases = (signature_err, signature_end, certificates_place, certificates_broken, signature_found)
+
+pub ruleset algorithm_cases = (algorithm_err, algorithm_end, algorithm_place, algorithm_broken, algorithm_start, algorithm_found)

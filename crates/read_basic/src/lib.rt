@@ -12,30 +12,27 @@ pub use signed::signed_body;
 pub use tails::algorithm_and_more;
 
 // Where the parts of the signed part's content are.
-#[derive(Clone, Copy)]
-pub enum Inside {
-    // Where the responder id starts, which is after the version; how many octets it takes; where the
-    // entries start, counted from there, how many octets they have, and how many they are.
-    Holds {
-        from: usize,
-        responder: usize,
-        start: usize,
-        len: usize,
-        count: usize,
-    },
-    // The place that is wrong, counted from the content's start.
-    Broken(usize),
+#[derive(Clone, Copy, Debug, PartialEq, Eq)]
+pub struct Inside {
+    // Where the responder id starts, which is after the version.
+    pub from: usize,
+    // How many octets it takes.
+    pub responder: usize,
+    // Where the entries start, counted from the responder id's start.
+    pub start: usize,
+    // How many octets they have.
+    pub len: usize,
+    // How many they are.
+    pub count: usize,
 }
 
 // Where the signature is, counted from the algorithm's start.
-#[derive(Clone, Copy)]
-pub enum Tail {
-    // How many octets the algorithm takes; where the signature starts, and how many octets it has.
-    Holds {
-        algorithm: usize,
-        start: usize,
-        len: usize,
-    },
-    // The place that is wrong.
-    Broken(usize),
+#[derive(Clone, Copy, Debug, PartialEq, Eq)]
+pub struct Tail {
+    // How many octets the algorithm takes.
+    pub algorithm: usize,
+    // Where the signature starts.
+    pub start: usize,
+    // How many octets it has.
+    pub len: usize,
 }

@@ -1,27 +1,25 @@
 -- The cases of an octet that was read: it passes a test or fails it, or is the one that is wanted.
--- value_wrong, value_pass, value_fail; taken_wrong, taken_pass, taken_fail; fixed_wrong, fixed_same, fixed_other.
+-- value_wrong, value_pass, value_fail, all in value_cases; taken_wrong, taken_pass, taken_fail, all in
+-- taken_cases; fixed_wrong, fixed_same, fixed_other, all in fixed_cases.
 -- Assumes nothing.
-use Prim.Native.Nat.{ℕ}
-use mathlib.Core.Path.{◌≡◌, refl, sym, ◌∙◌}
-use mathlib.Core.Bool.{Bool, true, false, cond}
-use mathlib.Core.Option.{none, some}
-use mathlib.Core.List.{List, [], ◌∷◌}
-use lib.Dec.{eqb}
+use Rattle.std.specs.Prelude.{ℕ, ◌≡◌, refl, Bool, true, false, cond, eqb, List, [], ◌∷◌, Ok, Err}
+use Rattle.std.proofs.Common.{sym, ◌∙◌}
+use Rattle.std.proofs.Math.Option.{none, some}
 use borrow.Author.Tests.{eq-eqb, ne_eqb}
 use Rattle.octets.specs.Same.{same_of}
+use Rattle.element.specs.Places.{misfit}
+use Rattle.element.specs.declared.Misfit.{Misfit}
 use Rattle.codec.specs.Codec.{got, bad}
 use Rattle.codec.specs.Outcome.{attach}
 use Rattle.codec.specs.Tagged.{own, tagged_dec}
 use Rattle.codec.specs.Contents.{fixed_read, or_start, filled_dec}
 use Rattle.codec.specs.Views.{step_of}
-use Rattle.codec.specs.declared.Step.TheVariants.{Taken, Bad}
 use Rattle.layout.specs.Words.{single_read}
 use Rattle.read_content.specs.ExpectLaws.{never}
 use Rattle.read_content.specs.PrimitiveLaws.{other_bad, other_got}
-use Rattle.read_codes.specs.Codes.{code_of, single_at}
+use Rattle.read_codes.specs.Codes.{CodeRead, code_of, single_at}
 use Rattle.read_codes.specs.CodeLaws.{code_got, code_bad}
 use Rattle.read_codes.specs.declared.Code.{Code}
-use Rattle.read_codes.specs.declared.Code.TheVariants as code
 
 module _ (test : ℕ → Bool) where
   tested : (c : List ℕ) (v : ℕ) (b : Bool) → test v ≡ b → single_read (λ x. true) c ≡ some v → single_read test c ≡ cond b (some v) none
@@ -57,66 +55,72 @@ fixed_none k (x ∷ []) e = never (cc)
 fixed_none k (x ∷ y ∷ c) e = rw (cond_false (eqb k x))
 
 -- by the octet that was read
-module _ (t : ℕ) (s : List ℕ) (x : Code) (q : x ≡ code_of (single_at t s)) where
-  single_bad : (p : ℕ) → x ≡ code.Wrong p → tagged_dec own t (filled_dec (single_read (λ x. true))) s ≡ bad p
+module _ (t : ℕ) (s : List ℕ) (x : CodeRead) (q : x ≡ code_of (single_at t s)) where
+  single_bad : (p : Misfit) → x ≡ Err p → tagged_dec own t (filled_dec (single_read (λ x. true))) s ≡ bad p.place
   unfolding single_at
-  single_bad p f = code_bad (single_at t s) p (sym q ∙ f)
+  single_bad p f = code_bad (single_at t s) p.place (sym q ∙ f)
 
-  single_got : (v n : ℕ) → x ≡ code.Read v n → tagged_dec own t (filled_dec (single_read (λ x. true))) s ≡ got v n
+  single_got : (c : Code) → x ≡ Ok c → tagged_dec own t (filled_dec (single_read (λ x. true))) s ≡ got c.value c.next
   unfolding single_at
-  single_got v n f = code_got (single_at t s) v n (sym q ∙ f)
+  single_got c f = code_got (single_at t s) c.value c.next (sym q ∙ f)
 
   -- an octet that passes a test
   module _ (test : ℕ → Bool) where
-    test_bad : (p : ℕ) → x ≡ code.Wrong p → tagged_dec own t (filled_dec (single_read test)) s ≡ bad p
-    test_bad p f = other_bad t s (single_read (λ x. true)) (single_read test) p (untested test) (single_bad p f)
+    test_bad : (p : Misfit) → x ≡ Err p → tagged_dec own t (filled_dec (single_read test)) s ≡ bad p.place
+    test_bad p f = other_bad t s (single_read (λ x. true)) (single_read test) p.place (untested test) (single_bad p f)
 
-    pub value_wrong : (p : ℕ) → x ≡ code.Wrong p → code.Wrong p ≡ code_of (tagged_dec own t (filled_dec (single_read test)) s)
+    pub value_wrong : (p : Misfit) → x ≡ Err p → Err p ≡ code_of (tagged_dec own t (filled_dec (single_read test)) s)
     unfolding code_of
     value_wrong p f = rw (test_bad p f)
 
-    pub taken_wrong : (p : ℕ) → x ≡ code.Wrong p → Bad p ≡ step_of (tagged_dec own t (filled_dec (single_read test)) s)
+    pub taken_wrong : (p : Misfit) → x ≡ Err p → Err p ≡ step_of (tagged_dec own t (filled_dec (single_read test)) s)
     unfolding step_of
     taken_wrong p f = rw (test_bad p f)
 
-    module _ (v n : ℕ) (f : x ≡ code.Read v n) (z : Bool) (d : z ≡ test v) where
-      test_got : (b : Bool) → z ≡ b → tagged_dec own t (filled_dec (single_read test)) s ≡ attach (own 0) n (or_start (cond b (some v) none))
+    module _ (c : Code) (f : x ≡ Ok c) (z : Bool) (d : z ≡ test c.value) where
+      test_got : (b : Bool) → z ≡ b → tagged_dec own t (filled_dec (single_read test)) s ≡ attach (own 0) c.next (or_start (cond b (some c.value) none))
       test_got b y =
-          other_got t s (single_read (λ x. true)) (single_read test) v n (cond b (some v) none)
-          (λ c e. tested test c v b (sym d ∙ y) e) (single_got v n f)
+          other_got t s (single_read (λ x. true)) (single_read test) c.value c.next (cond b (some c.value) none)
+          (λ l e. tested test l c.value b (sym d ∙ y) e) (single_got c f)
 
-      pub value_pass : z ≡ true → code.Read v n ≡ code_of (tagged_dec own t (filled_dec (single_read test)) s)
+      pub value_pass : z ≡ true → Ok c ≡ code_of (tagged_dec own t (filled_dec (single_read test)) s)
       unfolding code_of
       value_pass y = rw (test_got true y)
 
-      pub value_fail : z ≡ false → code.Wrong 0 ≡ code_of (tagged_dec own t (filled_dec (single_read test)) s)
+      pub value_fail : z ≡ false → Err (misfit 0) ≡ code_of (tagged_dec own t (filled_dec (single_read test)) s)
       unfolding code_of
       value_fail y = rw (test_got false y)
 
-      pub taken_pass : z ≡ true → Taken n ≡ step_of (tagged_dec own t (filled_dec (single_read test)) s)
+      pub taken_pass : z ≡ true → Ok c.next ≡ step_of (tagged_dec own t (filled_dec (single_read test)) s)
       unfolding step_of
       taken_pass y = rw (test_got true y)
 
-      pub taken_fail : z ≡ false → Bad 0 ≡ step_of (tagged_dec own t (filled_dec (single_read test)) s)
+      pub taken_fail : z ≡ false → Err (misfit 0) ≡ step_of (tagged_dec own t (filled_dec (single_read test)) s)
       unfolding step_of
       taken_fail y = rw (test_got false y)
 
   -- one octet alone
   module _ (k : ℕ) where
-    pub fixed_wrong : (p : ℕ) → x ≡ code.Wrong p → Bad p ≡ step_of (tagged_dec own t (filled_dec (fixed_read (k ∷ []))) s)
+    pub fixed_wrong : (p : Misfit) → x ≡ Err p → Err p ≡ step_of (tagged_dec own t (filled_dec (fixed_read (k ∷ []))) s)
     unfolding step_of
-    fixed_wrong p f = rw (other_bad t s (single_read (λ x. true)) (fixed_read (k ∷ [])) p (fixed_none k) (single_bad p f))
+    fixed_wrong p f = rw (other_bad t s (single_read (λ x. true)) (fixed_read (k ∷ [])) p.place (fixed_none k) (single_bad p f))
 
-    module _ (v n : ℕ) (f : x ≡ code.Read v n) where
-      fixed_got : (b : Bool) → eqb k v ≡ b → tagged_dec own t (filled_dec (fixed_read (k ∷ []))) s ≡ attach (own 0) n (or_start (cond b (some tt) none))
+    module _ (c : Code) (f : x ≡ Ok c) where
+      fixed_got : (b : Bool) → eqb k c.value ≡ b → tagged_dec own t (filled_dec (fixed_read (k ∷ []))) s ≡ attach (own 0) c.next (or_start (cond b (some tt) none))
       fixed_got b y =
-          other_got t s (single_read (λ x. true)) (fixed_read (k ∷ [])) v n (cond b (some tt) none)
-          (λ c e. fixed_octet k c v b y e) (single_got v n f)
+          other_got t s (single_read (λ x. true)) (fixed_read (k ∷ [])) c.value c.next (cond b (some tt) none)
+          (λ l e. fixed_octet k l c.value b y e) (single_got c f)
 
-      pub fixed_same : v ≡ k → Taken n ≡ step_of (tagged_dec own t (filled_dec (fixed_read (k ∷ []))) s)
+      pub fixed_same : c.value ≡ k → Ok c.next ≡ step_of (tagged_dec own t (filled_dec (fixed_read (k ∷ []))) s)
       unfolding step_of
-      fixed_same y = rw (fixed_got true (eq-eqb k v (sym y)))
+      fixed_same y = rw (fixed_got true (eq-eqb k c.value (sym y)))
 
-      pub fixed_other : (v ≡ k → ⊥) → Bad 0 ≡ step_of (tagged_dec own t (filled_dec (fixed_read (k ∷ []))) s)
+      pub fixed_other : (c.value ≡ k → ⊥) → Err (misfit 0) ≡ step_of (tagged_dec own t (filled_dec (fixed_read (k ∷ []))) s)
       unfolding step_of
-      fixed_other y = rw (fixed_got false (ne_eqb k v (λ e. y (sym e))))
+      fixed_other y = rw (fixed_got false (ne_eqb k c.value (λ e. y (sym e))))
+
+pub ruleset value_cases = (value_wrong, value_pass, value_fail)
+
+pub ruleset taken_cases = (taken_wrong, taken_pass, taken_fail)
+
+pub ruleset fixed_cases = (fixed_wrong, fixed_same, fixed_other)

@@ -10,10 +10,10 @@ mod singles; // contents of one octet, and of none
 pub use singles::{read_code, read_good, read_reason_code, read_true, read_unknown, read_v1};
 
 // The element of one octet at the head of a part.
-#[derive(Clone, Copy)]
-pub enum Code {
-    // The octet, and the place after the element.
-    Read { value: u8, next: usize },
-    // The place that is wrong.
-    Wrong(usize),
+#[derive(Clone, Copy, Debug, PartialEq, Eq)]
+pub struct Code {
+    // The octet.
+    pub value: u8,
+    // The place after the element.
+    pub next: usize,
 }

@@ -8,114 +8,89 @@ ghost use Rattle.read_codes.specs.Codes.{code_of, single_at, fixed_at, empty_at}
 
 use crate::Code;
 use codec::Step;
-use read_content::Spot;
+use element::Misfit;
 
 // A response status: 0, 1, 2, 3, 5 or 6.
+#[tactic(auto, using(crate::proofs::SingleCases::status_cases))]
 fn status_fits(value: u8) -> bool
     ensures { result ≡ status_ok value }
 {
-    if 6 < value {
-        return false;
-    }
-    value != 4
+    value <= 6 && value != 4
 }
 
 // A reason: 0 to 10 but not 7.
+#[tactic(auto, using(crate::proofs::SingleCases::reason_cases))]
 fn reason_fits(value: u8) -> bool
     ensures { result ≡ reason_ok value }
 {
-    if 10 < value {
-        return false;
-    }
-    value != 7
+    value <= 10 && value != 7
 }
 
 // An element with this tag and one octet, whatever it is.
-fn read_single(s: &[u8], tag: u8) -> Code
+#[tactic(auto, using(crate::proofs::SingleCases::single_cases), unfolding(crate::specs::Codes::single_at))]
+fn read_single(s: &[u8], tag: u8) -> Result<Code, Misfit>
     ensures { result ≡ code_of (single_at tag s.now) }
 {
-    let spot = read_content::expect(s, tag);
-    match spot {
-        Spot::Wrong(p) => Code::Wrong(p),
-        Spot::At { start, len } => {
-            if len != 1 {
-                return Code::Wrong(0);
-            }
-            let value = s[start];
-            let next = start + 1;
-            Code::Read { value, next }
-        }
+    let held = read_content::expect(s, tag)?;
+    if held.len != 1 {
+        return Err(Misfit { place: 0 });
     }
+    Ok(Code {
+        value: s[held.start],
+        next: held.start + 1,
+    })
 }
 
 // An element with this tag and this one octet.
+#[tactic(auto, using(crate::proofs::OctetCases::fixed_cases), unfolding(crate::specs::Codes::fixed_at))]
 fn read_fixed(s: &[u8], tag: u8, octet: u8) -> Step
     ensures { result ≡ step_of (fixed_at tag octet s.now) }
 {
-    let code = read_single(s, tag);
-    match code {
-        Code::Wrong(p) => Step::Bad(p),
-        Code::Read { value, next } => {
-            if value == octet {
-                Step::Taken(next)
-            } else {
-                Step::Bad(0)
-            }
-        }
+    let code = read_single(s, tag)?;
+    if code.value != octet {
+        return Err(Misfit { place: 0 });
     }
+    Ok(code.next)
 }
 
 // An element with this tag and no octet.
+#[tactic(auto, using(crate::proofs::SingleCases::empty_cases), unfolding(crate::specs::Codes::empty_at))]
 fn read_empty(s: &[u8], tag: u8) -> Step
     ensures { result ≡ step_of (empty_at tag s.now) }
 {
-    let spot = read_content::expect(s, tag);
-    match spot {
-        Spot::Wrong(p) => Step::Bad(p),
-        Spot::At { start, len } => {
-            if len != 0 {
-                return Step::Bad(0);
-            }
-            Step::Taken(start)
-        }
+    let held = read_content::expect(s, tag)?;
+    if held.len != 0 {
+        return Err(Misfit { place: 0 });
     }
+    Ok(held.start)
 }
 
 // The status of a response.
-pub fn read_code(s: &[u8]) -> Code
+#[tactic(auto, using(crate::proofs::OctetCases::value_cases))]
+pub fn read_code(s: &[u8]) -> Result<Code, Misfit>
     ensures { result ≡ code_of ((enumerated status_ok).dec s.now) }
 {
-    let code = read_single(s, 0x0a);
-    match code {
-        Code::Wrong(p) => Code::Wrong(p),
-        Code::Read { value, next } => {
-            if status_fits(value) {
-                Code::Read { value, next }
-            } else {
-                Code::Wrong(0)
-            }
-        }
+    let code = read_single(s, 0x0a)?;
+    if status_fits(code.value) {
+        return Ok(code);
     }
+    Err(Misfit { place: 0 })
 }
 
 // The reason of a revocation.
+#[tactic(auto, using(crate::proofs::OctetCases::taken_cases))]
 pub fn read_reason_code(s: &[u8]) -> Step
     ensures { result ≡ step_of ((enumerated reason_ok).dec s.now) }
 {
-    let code = read_single(s, 0x0a);
-    match code {
-        Code::Wrong(p) => Step::Bad(p),
-        Code::Read { value, next } => {
-            if reason_fits(value) {
-                Step::Taken(next)
-            } else {
-                Step::Bad(0)
-            }
-        }
+    let code = read_single(s, 0x0a)?;
+    if reason_fits(code.value) {
+        return Ok(code.next);
     }
+    Err(Misfit { place: 0 })
 }
 
 // TRUE: 01 01 FF.
+#[tactic(auto, unfolding(layout::proofs::Format::critical, crate::specs::Codes::fixed_at))]
 pub fn read_true(s: &[u8]) -> Step
     ensures { result ≡ step_of (critical.dec s.now) }
 {
@@ -123,6 +98,7 @@ pub fn read_true(s: &[u8]) -> Step
 }
 
 // The version v1, which is 0: 02 01 00.
+#[tactic(auto, unfolding(layout::proofs::Format::v1, crate::specs::Codes::fixed_at))]
 pub fn read_v1(s: &[u8]) -> Step
     ensures { result ≡ step_of (v1.dec s.now) }
 {
@@ -130,6 +106,7 @@ pub fn read_v1(s: &[u8]) -> Step
 }
 
 // Good: 80 00.
+#[tactic(auto, unfolding(layout::proofs::Format::good_status, crate::specs::Codes::empty_at))]
 pub fn read_good(s: &[u8]) -> Step
     ensures { result ≡ step_of (good_status.dec s.now) }
 {
@@ -137,6 +114,7 @@ pub fn read_good(s: &[u8]) -> Step
 }
 
 // Unknown: 82 00.
+#[tactic(auto, unfolding(layout::proofs::Format::unknown_status, crate::specs::Codes::empty_at))]
 pub fn read_unknown(s: &[u8]) -> Step
     ensures { result ≡ step_of (unknown_status.dec s.now) }
 {

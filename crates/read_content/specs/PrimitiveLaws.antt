@@ -1,15 +1,14 @@
 -- Laws of a primitive element: what it was read from, and what its content is with another test.
 -- content_read, primitive_got; other_bad, other_got.
 -- Assumes nothing.
-use Rattle.std.specs.Prelude.{ℕ, ◌+◌, ◌≡◌, Bool, true, false, cond, eqb, take, drop}
+use Rattle.std.specs.Prelude.{ℕ, ◌+◌, ◌≡◌, Bool, true, false, cond, eqb, take, drop, Ok, Err}
 use Rattle.std.proofs.Math.Path.{refl, ap}
 use Rattle.std.proofs.Common.{◌∙◌}
 use Rattle.std.proofs.Math.Option.{Option, none, some}
 use mathlib.Core.List.{List}
 use borrow.Author.Tests.{eqb-true, eq-eqb}
 use Rattle.element.specs.Header.{header_of}
-use Rattle.element.specs.declared.Header.{Header}
-use Rattle.element.specs.declared.Header.TheVariants.{Found, Refused}
+use Rattle.element.specs.Places.{HeaderRead, header}
 use Rattle.codec.specs.Codec.{read, got, bad}
 use Rattle.codec.specs.Outcome.{attach}
 use Rattle.codec.proofs.Outcome.{attach_got, tested_got, bad_got, got_bad, broke_read}
@@ -27,17 +26,17 @@ content_read {A} d c a e = go (d c) e
 
 -- a header with this tag, and a content that is read
 pub primitive_got : {A : Type 0} (t : ℕ) (s : List ℕ) (d : List ℕ → Option A) (a : A) (n : ℕ) → tagged_dec own t (filled_dec d) s ≡ got a n
-    → (h : ℕ) × (m : ℕ) × (header_of s ≡ Found t h m) × (h + m ≡ n) × (d (take m (drop h s)) ≡ some a)
+    → (h : ℕ) × (m : ℕ) × (header_of s ≡ Ok (header t h m)) × (h + m ≡ n) × (d (take m (drop h s)) ≡ some a)
 unfolding tagged_dec
 primitive_got {A} t s d a n e = go (header_of s) refl e
   where
-    go : (x : Header) → header_of s ≡ x → tagged_of own t (filled_dec d) s x ≡ got a n
-        → (h : ℕ) × (m : ℕ) × (header_of s ≡ Found t h m) × (h + m ≡ n) × (d (take m (drop h s)) ≡ some a)
-    go (Refused j) q e = bad_got e
-    go (Found u h m) q e =
-        let g = tested_got (eqb u t) _ _ a n e in
-        let w = attach_got (own h) (h + m) (filled_dec d (take m (drop h s))) a n g.1 in
-        (h, m, q ∙ ap (λ (k : ℕ). Found k h m) (eqb-true u t g.0), w.1, content_read d (take m (drop h s)) a w.0)
+    go : (r : HeaderRead) → header_of s ≡ r → tagged_of own t (filled_dec d) s r ≡ got a n
+        → (h : ℕ) × (m : ℕ) × (header_of s ≡ Ok (header t h m)) × (h + m ≡ n) × (d (take m (drop h s)) ≡ some a)
+    go (Err j) q e = bad_got e
+    go (Ok x) q e =
+        let g = tested_got (eqb x.tag t) _ _ a n e in
+        let w = attach_got (own x.start) (x.start + x.len) (filled_dec d (take x.len (drop x.start s))) a n g.1 in
+        (x.start, x.len, q ∙ ap {B = HeaderRead} (λ (k : ℕ). Ok (header k x.start x.len)) (eqb-true x.tag t g.0), w.1, content_read d (take x.len (drop x.start s)) a w.0)
 
 -- the same element with another content
 module _ {A B : Type 0} (t : ℕ) (s : List ℕ) (d : List ℕ → Option A) (d' : List ℕ → Option B) where
@@ -53,9 +52,9 @@ module _ {A B : Type 0} (t : ℕ) (s : List ℕ) (d : List ℕ → Option A) (d'
       tag true h n c e = content h n c (d c) refl e
       tag false h n c e = let i : 0 ≡ p = cc in ap bad i
 
-      go : (x : Header) → tagged_of own t (filled_dec d) s x ≡ bad p → tagged_of own t (filled_dec d') s x ≡ bad p
-      go (Refused j) e = let i : j ≡ p = cc in ap bad i
-      go (Found u h n) e = tag (eqb u t) h n (take n (drop h s)) e
+      go : (r : HeaderRead) → tagged_of own t (filled_dec d) s r ≡ bad p → tagged_of own t (filled_dec d') s r ≡ bad p
+      go (Err j) e = let i : j.place ≡ p = cc in ap bad i
+      go (Ok x) e = tag (eqb x.tag t) x.start x.len (take x.len (drop x.start s)) e
 
   -- by what it gives where the first content is there
   pub other_got : (a : A) (n : ℕ) (o : Option B) → ((c : List ℕ) → d c ≡ some a → d' c ≡ o) → tagged_dec own t (filled_dec d) s ≡ got a n

@@ -2,30 +2,31 @@
 -- spot_wrong; spot_reads, for an element whose value is its last octets (LastLaws). What `Step`
 -- tells is in codec's ViewLaws.
 -- The definition is in Spots. Assumes nothing.
-use Rattle.std.specs.Prelude.{ℕ, ◌+◌, ◌-◌, ◌≤◌, ◌≡◌, refl, List, length, take, drop}
+use Rattle.std.specs.Prelude.{ℕ, ◌+◌, ◌-◌, ◌≤◌, ◌≡◌, refl, List, length, take, drop, Ok, Err}
 use Rattle.std.proofs.Common.{arith, ap}
+use Rattle.element.specs.Places.{misfit, span}
+use Rattle.element.specs.PlacesLaws.{same_place, same_span}
 use Rattle.codec.specs.Codec.{Got, got, bad, Element}
 use Rattle.read_content.specs.Spots.{spot_of}
 use Rattle.read_content.specs.ExpectLaws.{never}
 use Rattle.read_content.specs.LastLaws.{Last}
-use Rattle.read_content.specs.declared.Spot.TheVariants as spot
 
 -- ── what an answer tells of the reading ──
-spot_got : (g : Got (List ℕ)) (b l : ℕ) → spot_of g ≡ spot.At b l → (x : List ℕ) × (n : ℕ) × (g ≡ got x n) × (n - length x ≡ b) × (length x ≡ l)
+spot_got : (g : Got (List ℕ)) (b l : ℕ) → spot_of g ≡ Ok (span b l) → (x : List ℕ) × (n : ℕ) × (g ≡ got x n) × (n - length x ≡ b) × (length x ≡ l)
 unfolding spot_of
 spot_got (bad p) b l e = never (cc)
-spot_got (got x n) b l e = (x, n, refl, cc, cc)
+spot_got (got x n) b l e = let v = same_span e in (x, n, refl, v.0, v.1)
 
-spot_bad : (g : Got (List ℕ)) (p : ℕ) → spot_of g ≡ spot.Wrong p → g ≡ bad p
+spot_bad : (g : Got (List ℕ)) (p : ℕ) → spot_of g ≡ Err (misfit p) → g ≡ bad p
 unfolding spot_of
-spot_bad (bad j) p e = let i : j ≡ p = cc in ap bad i
+spot_bad (bad j) p e = let i : j ≡ p = same_place e in ap bad i
 spot_bad (got x n) p e = never (cc)
 
-pub spot_wrong : (e : Element (List ℕ)) (s : List ℕ) (p : ℕ) → spot_of (e.dec s) ≡ spot.Wrong p → (e.dec s ≡ bad p) × (p ≤ length s)
+pub spot_wrong : (e : Element (List ℕ)) (s : List ℕ) (p : ℕ) → spot_of (e.dec s) ≡ Err (misfit p) → (e.dec s ≡ bad p) × (p ≤ length s)
 spot_wrong e s p q = let g = spot_bad (e.dec s) p q in (g, e.within s p g)
 
 -- the value is the octets at the spot
-pub spot_reads : (e : Element (List ℕ)) → Last e → (s : List ℕ) (b l : ℕ) → spot_of (e.dec s) ≡ spot.At b l
+pub spot_reads : (e : Element (List ℕ)) → Last e → (s : List ℕ) (b l : ℕ) → spot_of (e.dec s) ≡ Ok (span b l)
     → (e.dec s ≡ got (take l (drop b s)) (b + l)) × (length (take l (drop b s)) ≡ l) × (b + l ≤ length s)
 spot_reads e v s b l q =
     let (x, n, g, eb, el) = spot_got (e.dec s) b l q in

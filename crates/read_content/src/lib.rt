@@ -7,13 +7,8 @@
 
 mod spots; // contents that stay octets
 
+use element::{Misfit, Span};
 pub use spots::{expect, read_any_string, read_bits, read_oid, read_string};
 
-// The content of the element at the head of a part.
-#[derive(Clone, Copy)]
-pub enum Spot {
-    // It starts at start and is len octets long.
-    At { start: usize, len: usize },
-    // The place that is wrong.
-    Wrong(usize),
-}
+// Where the content of the element at the head of a part is, or the place that is wrong.
+pub type Spot = Result<Span, Misfit>;

@@ -1,6 +1,6 @@
--- The cases of critical extensions that are not understood: one extension, and the loop over a list that
--- is read. What is around it is in StrangeAround. A slice's octets are below 256.
--- here_plain, here_first, here_second, here_neither; list_broke; Searching, search_start, search_end,
+-- The cases of critical extensions that are not understood: the loop over a list that is read. What is
+-- around it is in StrangeAround. A slice's octets are below 256.
+-- list_broke; Searching, search_start, search_end,
 -- search_none, search_hit, search_less, search_next.
 -- Assumes nothing.
 use Prim.Native.Nat.{ℕ, ◌+◌, ◌-◌, ◌^◌, ◌≤◌, ◌<◌}
@@ -8,20 +8,19 @@ use native.Mathlib.Omega.{arith}
 use mathlib.Core.Path.{◌≡◌, sym, ap, ◌∙◌}
 use mathlib.Core.Bool.{Bool, true, false}
 use mathlib.Core.List.{List, [], ◌∷◌}
+use Rattle.std.specs.Prelude.{Option, Some, None, Ok, Err}
 use lib.ListN.{length, take, drop, length-append, length-drop}
 use lib.Seq.{drop-drop, drop-append_seam}
 use Rattle.octets.specs.OctetsLaws.{octets_drop}
-use Rattle.octets.specs.Same.{same_of}
 use Rattle.octets.specs.LentLaws.{Known, rest_is, known_octets, part_is}
+use Rattle.element.specs.declared.Misfit.{Misfit}
 use Rattle.codec.specs.Codec.{Read, read}
 use Rattle.codec.proofs.CodecLaws.{form_some}
-use Rattle.codec.specs.Keys.{new_to}
 use Rattle.codec.specs.Starts.{starts_with}
 use Rattle.codec.specs.Many.{All, forms}
 use Rattle.codec.specs.Views.{fit_of}
 use Rattle.codec.proofs.ViewLaws.{fit_fits}
-use Rattle.codec.specs.declared.Fit.{Fit}
-use Rattle.codec.specs.declared.Fit.TheVariants as fit
+use Rattle.codec.specs.Steps.{Fit}
 use Rattle.layout.specs.Reading.{Extension}
 use Rattle.layout.proofs.Format.{extension_after, extension_list}
 use Rattle.read_content.specs.ExpectLaws.{never}
@@ -29,30 +28,8 @@ use Rattle.read_oids.specs.Seen.{name_at}
 use Rattle.read_oids.specs.NameLaws.{name_here}
 use Rattle.read_oids.specs.NamedLaws.{Named, named}
 use Rattle.read_oids.specs.declared.Name.{Name}
-use Rattle.read_oids.specs.declared.Name.TheVariants as name
 use Rattle.read_critical.specs.Strange.{is_strange, strange_moved, strange_at, strange_read, strange_here}
 use Rattle.read_critical.specs.StrangeLaws.{moved_moved, strange_broke}
-use Rattle.read_critical.specs.declared.Strange.TheVariants.{None, At}
-
--- ── one extension ──
-module _ (a b x r : List ℕ) (z : Bool) (d : z ≡ starts_with 0x01 r) where
-  pub here_plain : z ≡ false → false ≡ strange_here (a ∷ b ∷ []) x r
-  unfolding strange_here
-  here_plain y = rw (← d, y)
-
-  module _ (y : z ≡ true) (v : Bool) (e : v ≡ same_of a x) where
-    pub here_first : v ≡ true → false ≡ strange_here (a ∷ b ∷ []) x r
-    unfolding strange_here new_to
-    here_first i = rw (← d, y, ← e, i)
-
-    module _ (n : v ≡ false) (w : Bool) (f : w ≡ same_of b x) where
-      pub here_second : w ≡ true → false ≡ strange_here (a ∷ b ∷ []) x r
-      unfolding strange_here new_to
-      here_second i = rw (← d, y, ← e, n, ← f, i)
-
-      pub here_neither : w ≡ false → true ≡ strange_here (a ∷ b ∷ []) x r
-      unfolding strange_here new_to
-      here_neither i = rw (← d, y, ← e, n, ← f, i)
 
 -- ── the loop ──
 -- how many octets an extension takes
@@ -77,10 +54,10 @@ module _ (known : List (List ℕ)) (s : List ℕ) (from : ℕ) (x : Fit) (q : x 
   fit_is : fit_of (extension_list.dec (drop from s)) ≡ x
   fit_is = rw (rest_is from s) at (sym q)
 
-  pub list_broke : (p : ℕ) → x ≡ fit.Breaks p → None ≡ strange_read known s (extension_list.dec (drop from s))
-  list_broke p f = sym (strange_broke known s (extension_list.dec (drop from s)) p (fit_is ∙ f))
+  pub list_broke : (p : Misfit) → x ≡ Err p → None ≡ strange_read known s (extension_list.dec (drop from s))
+  list_broke p f = sym (strange_broke known s (extension_list.dec (drop from s)) p.place (fit_is ∙ f))
 
-  pub search_start : x ≡ fit.Fits → from ≤ length s → length s < 2 ^ 64 → Known s
+  pub search_start : x ≡ Ok tt → from ≤ length s → length s < 2 ^ 64 → Known s
       → Searching known s (extension_list.dec (drop from s)) from
   unfolding strange_read extension_list
   search_start f le z o = let (l, e) = fit_fits extension_list (drop from s) (fit_is ∙ f) in record { left = l; is = go l e }
@@ -128,7 +105,7 @@ module _ (known : List (List ℕ)) (s : List ℕ) (x : Read (List Extension)) (a
   search_end i le = over i.left i.is le
 
   -- by the name at the place
-  module _ (lt : at < length s) (r : Name) (q : r ≡ name_at (take (length s - at) (drop at s))) (i : Searching known s x at) where
+  module _ (lt : at < length s) (r : Option Name) (q : r ≡ name_at (take (length s - at) (drop at s))) (i : Searching known s x at) where
     turn : (e : Extension) × (l : List Extension) × Left known s x at (e ∷ l)
     turn = begins i.left i.is lt
 
@@ -138,33 +115,33 @@ module _ (known : List (List ℕ)) (s : List ℕ) (x : Read (List Extension)) (a
     named_first : Named (drop at s) first (size first)
     named_first = its turn.2
 
-    pub search_none : r ≡ name.No → None ≡ strange_read known s x
+    pub search_none : r ≡ None → None ≡ strange_read known s x
     search_none e = let f = named_first.is in let g = name_here s at r q in never (cc)
 
-    module _ (u l n : ℕ) (e : r ≡ name.Is u l n) where
-      same_name : (named_first.start ≡ u) × (named_first.len ≡ l) × (size first ≡ n)
+    module _ (v : Name) (e : r ≡ Some v) where
+      same_name : (named_first.start ≡ v.start) × (named_first.len ≡ v.len) × (size first ≡ v.next)
       same_name = let f = named_first.is in let g = name_here s at r q in (cc, cc, cc)
 
-      oid_is : take (at + u + l - (at + u)) (drop (at + u) s) ≡ first.oid
-      oid_is = part_is (at + u) l s ∙ rw (← drop-drop u at s, ← same_name.0, ← same_name.1) named_first.oid
+      oid_is : take (at + v.start + v.len - (at + v.start)) (drop (at + v.start) s) ≡ first.oid
+      oid_is = part_is (at + v.start) v.len s ∙ rw (← drop-drop v.start at s, ← same_name.0, ← same_name.1) named_first.oid
 
-      flag_is : starts_with 0x01 (take (length s - (at + u + l)) (drop (at + u + l) s)) ≡ first.critical
+      flag_is : starts_with 0x01 (take (length s - (at + v.start + v.len)) (drop (at + v.start + v.len) s)) ≡ first.critical
       flag_is =
-          let j : at + (u + l) ≡ at + u + l = omega arith in
-          rw (rest_is (at + u + l) s, ← j, ← drop-drop (u + l) at s, ← same_name.0, ← same_name.1) named_first.flag
+          let j : at + (v.start + v.len) ≡ at + v.start + v.len = omega arith in
+          rw (rest_is (at + v.start + v.len) s, ← j, ← drop-drop (v.start + v.len) at s, ← same_name.0, ← same_name.1) named_first.flag
 
-      pub search_less : length s - (at + n) < length s - at
+      pub search_less : length s - (at + v.next) < length s - at
       search_less = omega (arith, (sizes turn.2).0, same_name.2)
 
       -- the answer for the extension
-      module _ (v : Bool) (d : v ≡ strange_here known (take (at + u + l - (at + u)) (drop (at + u) s)) (take (length s - (at + u + l)) (drop (at + u + l) s))) where
-        strange_is : is_strange known first ≡ v
+      module _ (w : Bool) (d : w ≡ strange_here known (take (at + v.start + v.len - (at + v.start)) (drop (at + v.start) s)) (take (length s - (at + v.start + v.len)) (drop (at + v.start + v.len) s))) where
+        strange_is : is_strange known first ≡ w
         unfolding is_strange strange_here
         strange_is = sym (d ∙ rw (oid_is, flag_is))
 
-        pub search_hit : v ≡ true → At at ≡ strange_read known s x
+        pub search_hit : w ≡ true → Some at ≡ strange_read known s x
         unfolding strange_at strange_moved
-        search_hit y = sym (turn.2.same ∙ rw (strange_is, y) (ap At (omega arith)))
+        search_hit y = sym (turn.2.same ∙ rw (strange_is, y) (ap Some (omega arith)))
 
-        pub search_next : v ≡ false → Searching known s x (at + n)
+        pub search_next : w ≡ false → Searching known s x (at + v.next)
         search_next y = record { left = turn.1; is = rw same_name.2 at (next turn.2 (strange_is ∙ y)) }

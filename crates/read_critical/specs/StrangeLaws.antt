@@ -3,13 +3,14 @@
 -- moved_moved; strange_none, strange_some, strange_first; strange_got, strange_clear, strange_found,
 -- strange_broke, strange_bad, strange_absent.
 -- The definitions are in Strange. Assumes nothing.
-use Rattle.std.specs.Prelude.{ℕ, ◌+◌, ◌-◌, Bool}
+use Rattle.std.specs.Prelude.{ℕ, ◌+◌, ◌-◌, Bool, Option, Some, None, Err}
 use Rattle.std.proofs.Common.{arith, sym, ◌∙◌, length-append}
 use Rattle.std.proofs.Math.Path.{◌≡◌, refl, ap}
 use Rattle.std.proofs.Math.Bool.{true, false, cond}
 use mathlib.Core.List.{List, [], ◌∷◌, ◌++◌}
 use Rattle.std.proofs.Math.ListN.{length}
 use Rattle.std.proofs.Math.Seq.{drop-length}
+use Rattle.element.specs.Places.{misfit}
 use Rattle.element.specs.HeaderLaws.{header_empty}
 use Rattle.octets.specs.SameLaws.{impossible}
 use Rattle.codec.specs.Codec.{Read, read, broke, got, bad}
@@ -19,17 +20,14 @@ use Rattle.codec.specs.Sequence.{end_dec, field_dec, only_dec}
 use Rattle.codec.specs.Tagged.{tagged_dec}
 use Rattle.codec.specs.Views.{fit_of}
 use Rattle.codec.proofs.ViewLaws.{fit_only_bad}
-use Rattle.codec.specs.declared.Fit.TheVariants.{Breaks}
 use Rattle.layout.specs.Reading.{Extension}
 use Rattle.layout.proofs.Format.{extension_after, extension_list, extensions}
 use Rattle.read_critical.specs.Strange.{is_strange, any_strange, strange_moved, strange_at, strange_read, strange_of}
-use Rattle.read_critical.specs.declared.Strange.{Strange}
-use Rattle.read_critical.specs.declared.Strange.TheVariants.{None, At}
 
-pub moved_moved : (m n : ℕ) (x : Strange) → strange_moved m (strange_moved n x) ≡ strange_moved (m + n) x
+pub moved_moved : (m n : ℕ) (x : Option ℕ) → strange_moved m (strange_moved n x) ≡ strange_moved (m + n) x
 unfolding strange_moved
 moved_moved m n None = refl
-moved_moved m n (At p) = ap At (omega arith)
+moved_moved m n (Some p) = ap Some (omega arith)
 
 -- ── by the list ──
 module _ (known : List (List ℕ)) where
@@ -40,18 +38,18 @@ module _ (known : List (List ℕ)) where
   strange_none (e ∷ l) h = go (is_strange known e) h (λ i. strange_none l i)
     where
       go : (b : Bool) → cond b true (any_strange known l) ≡ false → (any_strange known l ≡ false → strange_at known l ≡ None)
-          → cond b (At 0) (strange_moved (length ((extension_after []).enc e)) (strange_at known l)) ≡ None
+          → cond b (Some 0) (strange_moved (length ((extension_after []).enc e)) (strange_at known l)) ≡ None
       go true h on = impossible (sym h)
       go false h on = rw (on h)
 
   -- some extension is so: there is one
-  pub strange_some : (l : List Extension) → any_strange known l ≡ true → (q : ℕ) × (strange_at known l ≡ At q)
+  pub strange_some : (l : List Extension) → any_strange known l ≡ true → (q : ℕ) × (strange_at known l ≡ Some q)
   unfolding any_strange strange_at strange_moved
   strange_some [] h = impossible h
   strange_some (e ∷ l) h = go (is_strange known e) h (λ i. strange_some l i)
     where
-      go : (b : Bool) → cond b true (any_strange known l) ≡ true → (any_strange known l ≡ true → (q : ℕ) × (strange_at known l ≡ At q))
-          → (q : ℕ) × (cond b (At 0) (strange_moved (length ((extension_after []).enc e)) (strange_at known l)) ≡ At q)
+      go : (b : Bool) → cond b true (any_strange known l) ≡ true → (any_strange known l ≡ true → (q : ℕ) × (strange_at known l ≡ Some q))
+          → (q : ℕ) × (cond b (Some 0) (strange_moved (length ((extension_after []).enc e)) (strange_at known l)) ≡ Some q)
       go true h on = (0, refl)
       go false h on =
           let i = on h in
@@ -59,17 +57,17 @@ module _ (known : List (List ℕ)) where
 
   -- the first that is so stands where the forms before it end
   pub strange_first : (before : List Extension) (e : Extension) (after : List Extension) → any_strange known before ≡ false
-      → is_strange known e ≡ true → strange_at known (before ++ e ∷ after) ≡ At (length (forms (extension_after []).enc before))
+      → is_strange known e ≡ true → strange_at known (before ++ e ∷ after) ≡ Some (length (forms (extension_after []).enc before))
   unfolding any_strange strange_at strange_moved
   strange_first [] e after h y = rw y
   strange_first (a ∷ before) e after h y = go (is_strange known a) h (λ i. strange_first before e after i y)
     where
       go : (b : Bool) → cond b true (any_strange known before) ≡ false
-          → (any_strange known before ≡ false → strange_at known (before ++ e ∷ after) ≡ At (length (forms (extension_after []).enc before)))
-          → cond b (At 0) (strange_moved (length ((extension_after []).enc a)) (strange_at known (before ++ e ∷ after)))
-          ≡ At (length ((extension_after []).enc a ++ forms (extension_after []).enc before))
+          → (any_strange known before ≡ false → strange_at known (before ++ e ∷ after) ≡ Some (length (forms (extension_after []).enc before)))
+          → cond b (Some 0) (strange_moved (length ((extension_after []).enc a)) (strange_at known (before ++ e ∷ after)))
+          ≡ Some (length ((extension_after []).enc a ++ forms (extension_after []).enc before))
       go true h on = impossible (sym h)
-      go false h on = rw (on h) (ap At (sym (length-append ((extension_after []).enc a) (forms (extension_after []).enc before))))
+      go false h on = rw (on h) (ap Some (sym (length-append ((extension_after []).enc a) (forms (extension_after []).enc before))))
 
   -- ── by the part ──
   -- the extensions and nothing more
@@ -84,7 +82,7 @@ module _ (known : List (List ℕ)) where
   strange_clear p l q h = strange_got p l q ∙ rw (strange_none l h)
 
   pub strange_found : (p : List ℕ) (l : List Extension) → extensions.dec p ≡ got l (length p) → any_strange known l ≡ true
-      → (q : ℕ) × (strange_of known p ≡ At q)
+      → (q : ℕ) × (strange_of known p ≡ Some q)
   unfolding strange_moved
   strange_found p l q h =
       let n = length p - length (extension_list.enc l) in
@@ -92,7 +90,7 @@ module _ (known : List (List ℕ)) where
       (n + i.0, strange_got p l q ∙ ap (strange_moved n) i.1)
 
   -- something more, or not the extensions
-  pub strange_broke : (p : List ℕ) (o : Read (List Extension)) (q : ℕ) → fit_of o ≡ Breaks q → strange_read known p o ≡ None
+  pub strange_broke : (p : List ℕ) (o : Read (List Extension)) (q : ℕ) → fit_of o ≡ Err (misfit q) → strange_read known p o ≡ None
   unfolding strange_read fit_of
   strange_broke p (read l) q e = let z : ◌≡◌ {A = ℕ} 0 1 = cc in absurd (omega arith)
   strange_broke p (broke k) q e = refl

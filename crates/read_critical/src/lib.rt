@@ -9,12 +9,3 @@ mod list; // the list
 mod one; // one extension
 
 pub use around::strange_place;
-
-// The first critical extension of a part that is not understood.
-#[derive(Clone, Copy)]
-pub enum Strange {
-    // There is none.
-    None,
-    // It starts at this place.
-    At(usize),
-}

@@ -2,14 +2,13 @@
 -- follows it, an element that fills its holder; and a part of a part.
 -- drop_in, cut_in; tagged_read, field_read; only_left.
 -- The codecs are in crate codec. Assumes nothing.
-use Rattle.std.specs.Prelude.{ℕ, ◌+◌, ◌≤◌, ◌<◌, ◌≡◌, eqb, take}
+use Rattle.std.specs.Prelude.{ℕ, ◌+◌, ◌≤◌, ◌<◌, ◌≡◌, Ok, Err, eqb, take}
 use Rattle.std.proofs.Common.{arith, sym, ◌∙◌, length-take-le, take-take, take-add, drop_at, drop-drop, eqb-true}
 use Rattle.std.proofs.Math.Path.{refl, ap}
 use mathlib.Core.List.{List, [], ◌∷◌}
 use Rattle.std.proofs.Math.ListN.{length, drop, length-drop}
+use Rattle.element.specs.Places.{HeaderRead, header}
 use Rattle.element.specs.Header.{header_of}
-use Rattle.element.specs.declared.Header.{Header}
-use Rattle.element.specs.declared.Header.TheVariants.{Found, Refused}
 use Rattle.codec.specs.Codec.{Read, read, broke, Got, got}
 use Rattle.codec.proofs.Outcome.{bad_got, tested_got, attach_got, on_got_read, further_read}
 use Rattle.codec.specs.Tagged.{tagged_of, tagged_dec}
@@ -29,18 +28,18 @@ cut_in b l h m s le i =
 
 -- ── an element with a tag ──
 pub tagged_read : {A : Type 0} (at : ℕ → ℕ → ℕ) (t : ℕ) (d : List ℕ → Read A) (s : List ℕ) (a : A) (n : ℕ) → tagged_dec at t d s ≡ got a n
-    → (h : ℕ) × (m : ℕ) × (header_of s ≡ Found t h m) × (h + m ≡ n) × (d (take m (drop h s)) ≡ read a)
+    → (h : ℕ) × (m : ℕ) × (header_of s ≡ Ok (header t h m)) × (h + m ≡ n) × (d (take m (drop h s)) ≡ read a)
 unfolding tagged_dec
 tagged_read at t d s a n e = go (header_of s) refl e
   where
-    go : (x : Header) → header_of s ≡ x → tagged_of at t d s x ≡ got a n
-        → (h : ℕ) × (m : ℕ) × (header_of s ≡ Found t h m) × (h + m ≡ n) × (d (take m (drop h s)) ≡ read a)
-    go (Refused p) q e = bad_got e
-    go (Found u h m) q e =
-        let g = tested_got (eqb u t) _ _ a n e in
-        let r = attach_got (at h) (h + m) (d (take m (drop h s))) a n g.1 in
-        let i : u ≡ t = eqb-true u t g.0 in
-        (h, m, q ∙ ap (λ (v : ℕ). Found v h m) i, r.1, r.0)
+    go : (y : HeaderRead) → header_of s ≡ y → tagged_of at t d s y ≡ got a n
+        → (h : ℕ) × (m : ℕ) × (header_of s ≡ Ok (header t h m)) × (h + m ≡ n) × (d (take m (drop h s)) ≡ read a)
+    go (Err p) q e = bad_got e
+    go (Ok x) q e =
+        let g = tested_got (eqb x.tag t) _ _ a n e in
+        let r = attach_got (at x.start) (x.start + x.len) (d (take x.len (drop x.start s))) a n g.1 in
+        let i : x.tag ≡ t = eqb-true x.tag t g.0 in
+        (x.start, x.len, q ∙ ap {B = HeaderRead} (λ (v : ℕ). Ok (header v x.start x.len)) i, r.1, r.0)
 
 -- ── an element, then a whole list ──
 pub field_read : {A B : Type 0} (d : List ℕ → Got A) (d' : List ℕ → Read B) (s : List ℕ) (x : A × B) → field_dec d d' s ≡ read x

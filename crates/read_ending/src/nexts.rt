@@ -6,27 +6,21 @@ ghost use Rattle.layout.proofs.ElementKinds.{time};
 ghost use Rattle.layout.proofs.Format.{next_update};
 
 use codec::{Fit, Step};
-use read_content::Spot;
 
 // A time and nothing more.
+#[tactic(auto, using(read_sequence::specs::CaseLaws::filled_only))]
 fn time_alone(s: &[u8]) -> Fit
     ensures { result ≡ fit_of ((only time).dec s.now) }
 {
-    let step = read_numbers::judge_time(s);
-    read_sequence::filled(step, s.len())
+    read_sequence::filled(read_numbers::judge_time(s), s.len())
 }
 
 // nextUpdate [0].
+#[tactic(auto, using(read_sequence::specs::CaseLaws::tagged_wrong, read_sequence::specs::CaseLaws::tagged_end, read_sequence::specs::CaseLaws::tagged_sum, read_sequence::specs::CaseLaws::tagged_closed), unfolding(layout::proofs::Format::next_update))]
 pub(crate) fn judge_next(s: &[u8]) -> Step
     ensures { result ≡ step_of (next_update.dec s.now) }
 {
-    let spot = read_content::expect(s, 0xa0);
-    match spot {
-        Spot::Wrong(p) => Step::Bad(p),
-        Spot::At { start, len } => {
-            let end = start + len;
-            let body = time_alone(&s[start..end]);
-            read_sequence::closed(start, end, body)
-        }
-    }
+    let held = read_content::expect(s, 0xa0)?;
+    let end = held.start + held.len;
+    read_sequence::closed(held.start, end, time_alone(&s[held.start..end]))
 }

@@ -1,1 +1,2 @@
 pub mod CountTurns
+pub mod SingleCases

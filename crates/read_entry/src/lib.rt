@@ -10,12 +10,3 @@ mod singles; // one entry
 
 pub use entries::read_entries;
 pub use singles::read_single;
-
-// The elements of a part.
-#[derive(Clone, Copy)]
-pub enum Count {
-    // How many there are.
-    Is(usize),
-    // The place that is wrong.
-    Breaks(usize),
-}

@@ -1,12 +1,14 @@
 -- Laws of the values of an entry: those looked up in the octets of an entry are those of its reading.
 -- times_short, rest_short, seen_inside, seen_entry. Its extensions are in SeenEndLaws.
 -- The definitions are in Looks. Assumes nothing.
-use Rattle.std.specs.Prelude.{ℕ, ◌+◌, ◌-◌, ◌^◌, ◌≤◌, ◌<◌, ◌≡◌, List, [], ◌++◌, get_or, take, drop}
+use Rattle.std.specs.Prelude.{ℕ, ◌+◌, ◌^◌, ◌≤◌, ◌<◌, ◌≡◌, List, [], ◌++◌, Option, Some, None, Ok, Err, get_or, take, drop}
 use Rattle.std.proofs.Common.{arith, sym, ◌∙◌, append-nil, length-drop}
 use Rattle.std.proofs.Math.Path.{refl, ap}
-use Rattle.std.proofs.Math.Option.{Option, none, some}
+use Rattle.std.proofs.Math.Option.{none, some}
+use Rattle.std.proofs.Math.Option as math
 use Rattle.std.proofs.Math.ListN.{length}
 use Rattle.std.proofs.Math.Seq.{drop_at}
+use Rattle.element.specs.Places.{Spot, span}
 use Rattle.element.specs.Length.{length_form}
 use Rattle.element.specs.Form.{head_form, head_size, form_of}
 use Rattle.element.specs.FormLaws.{head_length, form_length, form_before}
@@ -23,18 +25,13 @@ use Rattle.layout.proofs.ElementKinds.{time, tag_30}
 use Rattle.layout.specs.Limits.{TimeOk, StatusOk, EntryOk}
 use Rattle.layout.proofs.Format.{cert_body, cert_id, cert_status, good_status, unknown_status, revoked_status, revoked_body, reason, extensions, next_update, single_body, single_response}
 use Rattle.read_content.specs.Spots.{expected}
-use Rattle.read_content.specs.declared.Spot.{Spot}
-use Rattle.read_content.specs.declared.Spot.TheVariants as spot
-use Rattle.read_entry_values.specs.declared.Why.TheVariants as why
 use Rattle.read_entry_values.specs.declared.Standing.TheVariants as standing
-use Rattle.read_entry_values.specs.declared.Until.{Until}
-use Rattle.read_entry_values.specs.declared.Until.TheVariants as until
 use Rattle.read_entry_values.specs.Looks.{standing_of, until_of, extensions_size, entry_seen, inside_spot, behind_spot, inside_sequence, behind_sequence, why_in, standing_in, times_in, until_in, rest_size, view_of, seen_in}
 
 -- ── the parts that are looked up ──
 -- a sequence at the head: what follows its header, and what follows it
 module _ (c r : List ℕ) (z : length c < 2 ^ 64) where
-  spot_is : expected 0x30 (header_of (form_of 0x30 c ++ r)) ≡ spot.At (head_size (length c)) (length c)
+  spot_is : expected 0x30 (header_of (form_of 0x30 c ++ r)) ≡ Ok (span (head_size (length c)) (length c))
   unfolding expected
   spot_is = rw (form_found 0x30 c r tag_30 z)
 
@@ -66,8 +63,8 @@ module _ (r : List ℕ) where
   unfolding standing_in why_in cert_status good_status unknown_status revoked_status revoked_body reason time form_of length_form time_form calendar.moment_form
   standing_form good h = refl
   standing_form unknown h = refl
-  standing_form (revoked t none) h = ap (λ (n : ℕ). standing.Revoked n why.Absent) (seconds_back t h.time)
-  standing_form (revoked t (some n)) h = ap (λ (k : ℕ). standing.Revoked k (why.Given n)) (seconds_back t h.time)
+  standing_form (revoked t none) h = ap (λ (n : ℕ). standing.Revoked n None) (seconds_back t h.time)
+  standing_form (revoked t (some n)) h = ap (λ (k : ℕ). standing.Revoked k (Some n)) (seconds_back t h.time)
 
 -- thisUpdate, and what follows it
 this_form : (t : ℕ) (r : List ℕ) → TimeOk t → plain_seconds (take 15 (drop 2 (time.enc t ++ r))) ≡ t
@@ -76,16 +73,16 @@ this_form t r h = seconds_back t h
 
 -- nextUpdate or none, then extensions or none
 module _ (t : ℕ) where
-  abbrev last : Option ℕ → Option (List Extension) → List ℕ
+  abbrev last : math.Option ℕ → math.Option (List Extension) → List ℕ
   last u x = time.enc t ++ (option_enc next_update.enc u ++ (option_enc extensions.enc x ++ []))
 
-  until_form : (u : Option ℕ) (x : Option (List Extension)) → OptionOk TimeOk u → until_in (last u x) ≡ until_of u
+  until_form : (u : math.Option ℕ) (x : math.Option (List Extension)) → OptionOk TimeOk u → until_in (last u x) ≡ until_of u
   unfolding until_in time next_update extensions form_of length_form time_form calendar.moment_form
   until_form none none h = refl
   until_form none (some l) h = refl
-  until_form (some n) x h = ap until.At (seconds_back n h)
+  until_form (some n) x h = ap Some (seconds_back n h)
 
-  rest_form : (u : Option ℕ) (x : Option (List Extension)) → rest_size (last u x) (until_of u) ≡ extensions_size x
+  rest_form : (u : math.Option ℕ) (x : math.Option (List Extension)) → rest_size (last u x) (until_of u) ≡ extensions_size x
   unfolding rest_size time next_update form_of length_form time_form calendar.moment_form
   rest_form none x = ap length (append-nil (option_enc extensions.enc x))
   rest_form (some n) x = ap length (append-nil (option_enc extensions.enc x))
@@ -97,16 +94,16 @@ unfolding inside_sequence
 inside_short s = go (expected 0x30 (header_of s))
   where
     go : (x : Spot) → length (inside_spot s x) ≤ length s
-    go (spot.At b l) = omega (arith, length-drop b s)
-    go (spot.Wrong p) = omega arith
+    go (Ok v) = omega (arith, length-drop v.start s)
+    go (Err p) = omega arith
 
 behind_short : (s : List ℕ) → length (behind_sequence s) ≤ length s
 unfolding behind_sequence
 behind_short s = go (expected 0x30 (header_of s))
   where
     go : (x : Spot) → length (behind_spot s x) ≤ length s
-    go (spot.At b l) = omega (arith, length-drop (b + l) s)
-    go (spot.Wrong p) = omega arith
+    go (Ok v) = omega (arith, length-drop (v.start + v.len) s)
+    go (Err p) = omega arith
 
 -- so its times are
 pub times_short : (s : List ℕ) → length (times_in (behind_sequence (inside_sequence s))) ≤ length s
@@ -115,10 +112,10 @@ times_short s =
     let r = behind_sequence (inside_sequence s) in
     omega (arith, length-drop (2 + get_or r 1 0) r, behind_short (inside_sequence s), inside_short s)
 
-pub rest_short : (s : List ℕ) (u : Until) → rest_size s u ≤ length s
+pub rest_short : (s : List ℕ) (u : Option ℕ) → rest_size s u ≤ length s
 unfolding rest_size
-rest_short s (until.At n) = omega (arith, length-drop 36 s)
-rest_short s until.Absent = omega (arith, length-drop 17 s)
+rest_short s (Some n) = omega (arith, length-drop 36 s)
+rest_short s None = omega (arith, length-drop 17 s)
 
 -- where extensions are seen lies in the entry, to its end
 pub seen_inside : (s : List ℕ) → (seen_in s).from + (seen_in s).len ≡ length s

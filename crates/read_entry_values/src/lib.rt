@@ -10,35 +10,22 @@ mod looks; // the values of an entry
 pub use looks::look_at;
 
 // What an entry says of its certificate.
-#[derive(Clone, Copy)]
+#[derive(Clone, Copy, Debug, PartialEq, Eq)]
 pub enum Standing {
     Good,
-    // Since this time, in seconds since 1970.
-    Revoked { at: u64, reason: Why },
+    // Since this time, in seconds since 1970, and for this reason, where one is given.
+    Revoked { at: u64, reason: Option<u8> },
     Unknown,
 }
 
-// The reason of a revocation.
-#[derive(Clone, Copy)]
-pub enum Why {
-    Given(u8),
-    Absent,
-}
-
-// nextUpdate, in seconds since 1970.
-#[derive(Clone, Copy)]
-pub enum Until {
-    At(u64),
-    Absent,
-}
-
 // The values of an entry.
-#[derive(Clone, Copy)]
+#[derive(Clone, Copy, Debug, PartialEq, Eq)]
 pub struct View {
     pub standing: Standing,
     // thisUpdate, in seconds since 1970.
     pub this: u64,
-    pub until: Until,
+    // nextUpdate, in seconds since 1970, where there is one.
+    pub until: Option<u64>,
     // Where its extensions start, header included, and how many octets they take, to the entry's end:
     // none where they are absent.
     pub from: usize,

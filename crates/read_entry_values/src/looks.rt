@@ -4,96 +4,83 @@ ghost use Rattle.std.specs.Prelude.{◌≤◌, ◌≡◌, length, get_or, take, 
 ghost use Rattle.calendar.specs.Plain.{plain_seconds};
 ghost use Rattle.read_entry_values.specs.Looks.{inside_sequence, behind_sequence, why_in, standing_in, times_in, until_in, rest_size, view_of, seen_in};
 
-use crate::{Standing, Until, View, Why};
-use read_content::Spot;
+use crate::{Standing, View};
 
 // The octet at a place, 0 where there is none.
 fn octet_at(s: &[u8], at: usize) -> u8
     ensures { result ≡ get_or s.now at 0 }
 {
-    if at < s.len() {
-        return s[at];
-    }
-    0
+    s.get(at).copied().unwrap_or(0)
 }
 
 // What follows a place.
 fn tail<'a>(s: &'a [u8], at: usize) -> &'a [u8]
     ensures { result.now ≡ drop at s.now }
 {
-    if s.len() < at {
-        return &s[..0];
-    }
-    &s[at..]
+    s.get(at..).unwrap_or(&[])
 }
 
 // The seconds of the time whose content is the 15 octets from a place on; 0 where they are not all there.
+#[tactic(auto, using(crate::proofs::LookCases::seconds_few))]
 fn seconds_at(s: &[u8], at: usize) -> u64
     ensures { result ≡ plain_seconds (take 15 (drop at s.now)) }
 {
-    if s.len() < at {
-        return 0;
+    match tail(s, at).get(..15) {
+        Some(time) => calendar::seconds_of(time),
+        None => 0,
     }
-    if s.len() - at < 15 {
-        return 0;
-    }
-    let end = at + 15;
-    calendar::seconds_of(&s[at..end])
 }
 
 // What follows the header of the sequence at the head; nothing where there is none.
+#[tactic(auto, using(read_content::specs::ExpectLaws::content_end), unfolding(crate::specs::Looks::inside_sequence))]
 fn inside<'a>(s: &'a [u8]) -> &'a [u8]
     ensures { result.now ≡ inside_sequence s.now }
 {
-    let spot = read_content::expect(s, 0x30);
-    match spot {
-        Spot::Wrong(_) => &s[..0],
-        Spot::At { start, len: _ } => &s[start..],
+    match read_content::expect(s, 0x30) {
+        Ok(held) => &s[held.start..],
+        Err(_) => &s[..0],
     }
 }
 
 // What follows the sequence at the head; nothing where there is none.
+#[tactic(auto, using(read_content::specs::ExpectLaws::content_end, read_content::specs::ExpectLaws::content_sum), unfolding(crate::specs::Looks::behind_sequence))]
 fn behind<'a>(s: &'a [u8]) -> &'a [u8]
     ensures { result.now ≡ behind_sequence s.now }
 {
-    let spot = read_content::expect(s, 0x30);
-    match spot {
-        Spot::Wrong(_) => &s[..0],
-        Spot::At { start, len } => {
-            let end = start + len;
-            &s[end..]
-        }
+    match read_content::expect(s, 0x30) {
+        Ok(held) => &s[held.start + held.len..],
+        Err(_) => &s[..0],
     }
 }
 
 // The reason in a revoked status: its code is the last octet, where there is more than the time.
-fn why_in(status: &[u8]) -> Why
+#[tactic(auto, unfolding(crate::specs::Looks::why_in))]
+fn why_in(status: &[u8]) -> Option<u8>
     ensures { result ≡ why_in status.now }
 {
     if octet_at(status, 1) == 17 {
-        return Why::Absent;
+        return None;
     }
-    let code = octet_at(status, 23);
-    Why::Given(code)
+    Some(octet_at(status, 23))
 }
 
 // A status, by its tag.
+#[tactic(auto, unfolding(crate::specs::Looks::standing_in))]
 fn standing_in(status: &[u8]) -> Standing
     ensures { result ≡ standing_in status.now }
 {
-    let tag = octet_at(status, 0);
-    if tag == 0x80 {
-        return Standing::Good;
+    match octet_at(status, 0) {
+        0x80 => Standing::Good,
+        0x82 => Standing::Unknown,
+        _ => Standing::Revoked {
+            at: seconds_at(status, 4),
+            reason: why_in(status),
+        },
     }
-    if tag == 0x82 {
-        return Standing::Unknown;
-    }
-    let at = seconds_at(status, 4);
-    let reason = why_in(status);
-    Standing::Revoked { at, reason }
 }
 
 // What follows a status: the times.
+#[tactic(auto, unfolding(crate::specs::Looks::times_in))]
 fn times_in<'a>(status: &'a [u8]) -> &'a [u8]
     ensures { result.now ≡ times_in status.now }
 {
@@ -102,33 +89,29 @@ fn times_in<'a>(status: &'a [u8]) -> &'a [u8]
 }
 
 // nextUpdate, by its tag behind thisUpdate.
-fn until_in(times: &[u8]) -> Until
+#[tactic(auto, unfolding(crate::specs::Looks::until_in))]
+fn until_in(times: &[u8]) -> Option<u64>
     ensures { result ≡ until_in times.now }
 {
     if octet_at(times, 17) == 0xa0 {
-        let seconds = seconds_at(times, 21);
-        return Until::At(seconds);
+        return Some(seconds_at(times, 21));
     }
-    Until::Absent
+    None
 }
 
 // How many octets follow the times.
-fn rest_size(times: &[u8], until: Until) -> usize
+#[tactic(auto, unfolding(crate::specs::Looks::rest_size))]
+fn rest_size(times: &[u8], until: Option<u64>) -> usize
     ensures { result ≡ rest_size times.now until }
 {
     match until {
-        Until::At(_) => {
-            let rest = tail(times, 36);
-            rest.len()
-        }
-        Until::Absent => {
-            let rest = tail(times, 17);
-            rest.len()
-        }
+        Some(_) => tail(times, 36).len(),
+        None => tail(times, 17).len(),
     }
 }
 
 // The values of an entry of this size, with its status, by its times.
+#[tactic(auto, using(crate::specs::SeenLaws::rest_short), unfolding(crate::specs::Looks::view_of))]
 fn view_of(size: usize, standing: Standing, times: &[u8]) -> View
     requires { length times.now ≤ size }
     ensures { result ≡ view_of size standing times.now }
@@ -136,17 +119,17 @@ fn view_of(size: usize, standing: Standing, times: &[u8]) -> View
     let this = seconds_at(times, 2);
     let until = until_in(times);
     let len = rest_size(times, until);
-    let from = size - len;
     View {
         standing,
         this,
         until,
-        from,
+        from: size - len,
         len,
     }
 }
 
 // The values of an entry.
+#[tactic(auto, using(crate::specs::SeenLaws::times_short), unfolding(crate::specs::Looks::seen_in))]
 pub fn look_at(s: &[u8]) -> View
     ensures { result ≡ seen_in s.now }
 {

@@ -1,16 +1,17 @@
 -- The cases of the reader of the type and the string.
 -- Assumes nothing.
-use Prim.Native.Nat.{ℕ, ◌+◌, ◌-◌, ◌^◌, ◌≤◌, ◌<◌}
+use Prim.Native.Nat.{ℕ, ◌+◌, ◌-◌, ◌≤◌, ◌<◌}
 use native.Mathlib.Omega.{arith}
-use mathlib.Core.Path.{◌≡◌, sym, ◌∙◌}
-use mathlib.Core.Bool.{Bool}
+use mathlib.Core.Path.{◌≡◌}
 use mathlib.Core.List.{List}
+use Rattle.std.specs.Prelude.{Ok, Err}
 use lib.ListN.{length, take, drop, length-drop}
-use mir.Syntax.{w64}
-use mir.Val.{Fits}
 use Rattle.octets.specs.Same.{same_of}
 use Rattle.octets.specs.LentLaws.{rest_is, part_is}
-use Rattle.codec.specs.Codec.{got}
+use Rattle.element.specs.Places.{misfit, Spot}
+use Rattle.element.specs.declared.Misfit.{Misfit}
+use Rattle.element.specs.declared.Span.{Span}
+use Rattle.codec.specs.Codec.{got, bad}
 use Rattle.codec.specs.Sequence.{field_dec}
 use Rattle.layout.specs.Words.{anything}
 use Rattle.layout.proofs.ElementKinds.{oid, string}
@@ -18,66 +19,60 @@ use Rattle.layout.specs.Read.{basic_type}
 use Rattle.read_content.specs.Spots.{spot_of}
 use Rattle.read_content.specs.LastLaws.{last_oid, last_string}
 use Rattle.read_content.specs.SpotLaws.{spot_reads, spot_wrong}
-use Rattle.read_content.specs.declared.Spot.{Spot}
-use Rattle.read_content.specs.declared.Spot.TheVariants as spot
 use Rattle.read_envelope.specs.Cover.{type_string, covered, cover_by, bytes_of}
 use Rattle.read_envelope.proofs.CoverLaws.{only_wrong, only_fills, only_left}
 use Rattle.read_envelope.specs.declared.Cover.TheVariants as cover
 
-module _ (s : List ℕ) (r : Spot) (q : r ≡ spot_of (oid.dec s)) where
-  pub type_wrong : (p : ℕ) → r ≡ spot.Wrong p → cover.Broken p ≡ bytes_of (type_string.dec s)
+module _ (s : List ℕ) where
+  pub type_err : (p : Misfit) → spot_of (oid.dec s) ≡ Err p → bytes_of (type_string.dec s) ≡ Err p
   unfolding cover_by type_string field_dec
-  type_wrong p e = rw (spot_wrong oid s p (sym q ∙ e)).0
+  type_err p e = rw (spot_wrong oid s p.place e).0
 
-  module _ (b l : ℕ) (e : r ≡ spot.At b l) where
-    type_got : (oid.dec s ≡ got (take l (drop b s)) (b + l)) × (length (take l (drop b s)) ≡ l) × (b + l ≤ length s)
-    type_got = spot_reads oid last_oid s b l (sym q ∙ e)
+  module _ (v : Span) (e : spot_of (oid.dec s) ≡ Ok v) where
+    type_got : (oid.dec s ≡ got (take v.len (drop v.start s)) (v.start + v.len)) × (length (take v.len (drop v.start s)) ≡ v.len) × (v.start + v.len ≤ length s)
+    type_got = spot_reads oid last_oid s v.start v.len e
 
-    pub type_end : b + l ≤ length s
+    pub type_end : v.start + v.len ≤ length s
     type_end = type_got.2
 
-    pub type_sum : length s < 2 ^ 64 → Fits w64 (b + l)
-    type_sum z = record { fits = omega (arith, type_end) }
+    -- what follows the type, as the code lends it
+    abbrev after : List ℕ
+    after = take (length s - (v.start + v.len)) (drop (v.start + v.len) s)
 
-    module _ (r' : Spot) (q' : r' ≡ spot_of ((string anything).dec (take (length s - (b + l)) (drop (b + l) s)))) where
-      string_is : spot_of ((string anything).dec (drop (b + l) s)) ≡ r'
-      string_is = rw (rest_is (b + l) s) at (sym q')
+    string_as : (x : Spot) → spot_of ((string anything).dec after) ≡ x → spot_of ((string anything).dec (drop (v.start + v.len) s)) ≡ x
+    string_as x k = rw (rest_is (v.start + v.len) s) at k
 
-      pub string_wrong : (p : ℕ) → r' ≡ spot.Wrong p → cover.Broken (b + l + p) ≡ bytes_of (type_string.dec s)
+    module _ (p : Misfit) (k : spot_of ((string anything).dec (take (length s - (v.start + v.len)) (drop (v.start + v.len) s))) ≡ Err p) where
+      string_bad : ((string anything).dec (drop (v.start + v.len) s) ≡ bad p.place) × (p.place ≤ length (drop (v.start + v.len) s))
+      string_bad = spot_wrong (string anything) (drop (v.start + v.len) s) p.place (string_as (Err p) k)
+
+      pub string_err : bytes_of (type_string.dec s) ≡ Err (misfit (v.start + v.len + p.place))
       unfolding cover_by type_string field_dec
-      string_wrong p e' =
-          let w = (spot_wrong (string anything) (drop (b + l) s) p (string_is ∙ e')).0 in
-          rw (type_got.0, only_wrong (string anything).dec (drop (b + l) s) p w)
+      string_err = rw (type_got.0, only_wrong (string anything).dec (drop (v.start + v.len) s) p.place string_bad.0)
 
-      pub string_place : (p : ℕ) → r' ≡ spot.Wrong p → length s < 2 ^ 64 → Fits w64 (b + l + p)
-      string_place p e' z =
-          let w = (spot_wrong (string anything) (drop (b + l) s) p (string_is ∙ e')).1 in
-          record { fits = omega (arith, type_end, length-drop (b + l) s) }
+      pub string_place : v.start + v.len + p.place ≤ length s
+      string_place = omega (arith, type_end, string_bad.1, length-drop (v.start + v.len) s)
 
-      module _ (h m : ℕ) (e' : r' ≡ spot.At h m) where
-        string_got : ((string anything).dec (drop (b + l) s) ≡ got (take m (drop h (drop (b + l) s))) (h + m))
-            × (length (take m (drop h (drop (b + l) s))) ≡ m) × (h + m ≤ length (drop (b + l) s))
-        string_got = spot_reads (string anything) (last_string anything) (drop (b + l) s) h m (string_is ∙ e')
+    module _ (w : Span) (k : spot_of ((string anything).dec (take (length s - (v.start + v.len)) (drop (v.start + v.len) s))) ≡ Ok w) where
+      string_got : ((string anything).dec (drop (v.start + v.len) s) ≡ got (take w.len (drop w.start (drop (v.start + v.len) s))) (w.start + w.len))
+          × (length (take w.len (drop w.start (drop (v.start + v.len) s))) ≡ w.len) × (w.start + w.len ≤ length (drop (v.start + v.len) s))
+      string_got = spot_reads (string anything) (last_string anything) (drop (v.start + v.len) s) w.start w.len (string_as (Ok w) k)
 
-        string_end : b + l + h + m ≤ length s
-        string_end = omega (arith, string_got.2, type_end, length-drop (b + l) s)
+      pub string_end : v.start + v.len + w.start + w.len ≤ length s
+      string_end = omega (arith, string_got.2, type_end, length-drop (v.start + v.len) s)
 
-        pub string_from : length s < 2 ^ 64 → Fits w64 (b + l + h)
-        string_from z = record { fits = omega (arith, string_end) }
+      pub string_fills : v.start + v.len + w.start + w.len ≡ length s
+          → bytes_of (type_string.dec s) ≡ Ok (cover.Holds (same_of (take (v.start + v.len - v.start) (drop v.start s)) basic_type) w.len)
+      unfolding cover_by covered type_string field_dec
+      string_fills i =
+          let le : length (drop (v.start + v.len) s) ≤ w.start + w.len = simp length-drop (omega arith) in
+          rw (type_got.0, only_fills (string anything).dec (drop (v.start + v.len) s) _ (w.start + w.len) string_got.0 le, string_got.1, part_is v.start v.len s)
 
-        pub string_to : length s < 2 ^ 64 → Fits w64 (b + l + h + m)
-        string_to z = record { fits = omega (arith, string_end) }
+      pub string_left : (v.start + v.len + w.start + w.len ≡ length s → ⊥) → bytes_of (type_string.dec s) ≡ Err (misfit (v.start + v.len + w.start + w.len))
+      unfolding cover_by type_string field_dec
+      string_left n =
+          let lt : w.start + w.len < length (drop (v.start + v.len) s) = simp length-drop (omega (arith, string_end)) in
+          let j : v.start + v.len + w.start + w.len ≡ v.start + v.len + (w.start + w.len) = omega arith in
+          rw (type_got.0, only_left (string anything).dec (drop (v.start + v.len) s) _ (w.start + w.len) string_got.0 lt, j)
 
-        pub string_fills : (z : Bool) → z ≡ same_of (take (b + l - b) (drop b s)) basic_type → b + l + h + m ≡ length s
-            → cover.Holds z m ≡ bytes_of (type_string.dec s)
-        unfolding cover_by covered type_string field_dec
-        string_fills z k i =
-            let le : length (drop (b + l) s) ≤ h + m = simp length-drop (omega arith) in
-            rw (type_got.0, only_fills (string anything).dec (drop (b + l) s) _ (h + m) string_got.0 le, string_got.1, ← part_is b l s, ← k)
-
-        pub string_left : (b + l + h + m ≡ length s → ⊥) → cover.Broken (b + l + h + m) ≡ bytes_of (type_string.dec s)
-        unfolding cover_by type_string field_dec
-        string_left n =
-            let lt : h + m < length (drop (b + l) s) = simp length-drop (omega (arith, string_end)) in
-            let j : b + l + h + m ≡ b + l + (h + m) = omega arith in
-            rw (type_got.0, only_left (string anything).dec (drop (b + l) s) _ (h + m) string_got.0 lt, j)
+pub ruleset string_cases = (type_err, type_end, string_err, string_place, string_end, string_fills, string_left)

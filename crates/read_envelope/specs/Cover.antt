@@ -1,9 +1,11 @@
 -- What an envelope is, seen as positions: what its reader answers.
--- cover_of; bytes_of, for the type and the string alone; covered_by, of an element that is to fill its
--- holder. Their laws are in CoverLaws.
+-- CoverRead, an answer; cover_of; bytes_of, for the type and the string alone; covered_by, of an element that is
+-- to fill its holder. Their laws are in CoverLaws.
 -- Assumes nothing.
-use Rattle.std.specs.Prelude.{ℕ, ◌+◌, cond, List, eqb, length}
+use Rattle.std.specs.Prelude.{ℕ, ◌+◌, cond, List, eqb, length, Result, Ok, Err}
 use Rattle.octets.specs.Same.{same_of}
+use Rattle.element.specs.declared.Misfit.{Misfit}
+use Rattle.element.specs.Places.{misfit}
 use Rattle.codec.specs.Codec.{Read, read, broke, Whole}
 use Rattle.codec.proofs.Sequence.{field, only}
 use Rattle.layout.specs.Words.{anything}
@@ -13,21 +15,25 @@ use Rattle.layout.specs.Read.{basic_type}
 use Rattle.read_envelope.specs.declared.Cover.{Cover}
 use Rattle.read_envelope.specs.declared.Cover.TheVariants as cover
 
+-- what the envelope is, or the place that is wrong
+abbrev pub CoverRead : Type 0
+CoverRead = Result Cover Misfit
+
 -- an error response's status; or whether the type is the basic one, and the string's length
 unfoldable pub covered : Envelope → Cover
 covered (failure n) = cover.Failed n
 covered (success t c) = cover.Holds (same_of t basic_type) (length c)
 
 -- what is read as an envelope, or the place that is wrong
-unfoldable pub cover_by : {A : Type 0} → (A → Envelope) → Read A → Cover
-cover_by f (read a) = covered (f a)
-cover_by f (broke p) = cover.Broken p
+unfoldable pub cover_by : {A : Type 0} → (A → Envelope) → Read A → CoverRead
+cover_by f (read a) = Ok (covered (f a))
+cover_by f (broke p) = Err (misfit p)
 
-abbrev pub cover_of : Read Envelope → Cover
+abbrev pub cover_of : Read Envelope → CoverRead
 cover_of = cover_by (λ x. x)
 
 -- the type and the string are a successful envelope's
-abbrev pub bytes_of : Read (List ℕ × List ℕ) → Cover
+abbrev pub bytes_of : Read (List ℕ × List ℕ) → CoverRead
 bytes_of = cover_by (λ x. success x.0 x.1)
 
 -- the type's OID, then the string, which fills the rest
@@ -39,13 +45,11 @@ unfoldable pub type_sequence : Whole (List ℕ × List ℕ)
 type_sequence = only (sequence type_string)
 
 -- the place that is wrong
-abbrev pub broken_at : Cover → ℕ
-broken_at (cover.Failed n) = 0
-broken_at (cover.Holds b n) = 0
-broken_at (cover.Broken p) = p
+abbrev pub broken_at : CoverRead → ℕ
+broken_at (Ok c) = 0
+broken_at (Err p) = p.place
 
 -- an element that is to fill so many octets, by its content from start to end
-unfoldable pub covered_by : ℕ → ℕ → ℕ → Cover → Cover
-covered_by start end size (cover.Broken p) = cover.Broken (start + p)
-covered_by start end size (cover.Failed n) = cond (eqb end size) (cover.Failed n) (cover.Broken end)
-covered_by start end size (cover.Holds b n) = cond (eqb end size) (cover.Holds b n) (cover.Broken end)
+unfoldable pub covered_by : ℕ → ℕ → ℕ → CoverRead → CoverRead
+covered_by start end size (Err p) = Err (misfit (start + p.place))
+covered_by start end size (Ok c) = cond (eqb end size) (Ok c) (Err (misfit end))

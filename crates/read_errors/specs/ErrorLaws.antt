@@ -1,7 +1,7 @@
 -- An error response is five octets, and no other octets are judged to be one.
 -- error_octets; error_form, error_status, no_error.
 -- What a response is judged to be is in crate read_response. Assumes nothing.
-use Rattle.std.specs.Prelude.{ℕ, zero, suc, ◌≤◌, ◌≡◌, refl, Bool, true, false, cond, List, [], ◌∷◌, ltb, length}
+use Rattle.std.specs.Prelude.{ℕ, zero, suc, ◌≤◌, ◌≡◌, refl, Bool, true, false, cond, List, [], ◌∷◌, ltb, length, Err}
 use Rattle.std.proofs.Common.{arith, ◌∙◌}
 use Rattle.octets.specs.Octets.{Octets}
 use Rattle.layout.specs.Reading.{failed, basic}
@@ -12,7 +12,7 @@ use Rattle.layout.proofs.Opened.{opened}
 use Rattle.layout.proofs.Theorem.{sound}
 use Rattle.read_response.specs.Parts.{judged_as, judged_of}
 use Rattle.read_response.specs.Refusals.{refusal_of}
-use Rattle.read_response.specs.declared.Judged.TheVariants as judged
+use Rattle.read_response.specs.declared.Unread.TheVariants as unread
 
 -- 30 03 0a 01, then the status
 abbrev pub error_octets : ℕ → List ℕ
@@ -47,7 +47,7 @@ pub no_error : (s : List ℕ) → Octets s → ((n : ℕ) → FailureOk n → s 
 unfolding judged_of judged_as refusal_of
 no_error s o h = go (ltb 16384 (length s)) (reading s) refl
   where
-    go : (t : Bool) (x : Outcome) → reading s ≡ x → 0 ≡ (refusal_of (cond t judged.TooLong (judged_as (length s) x))).status
+    go : (t : Bool) (x : Outcome) → reading s ≡ x → 0 ≡ (refusal_of (cond t (Err unread.TooLong) (judged_as (length s) x))).status
     go true x e = refl
     go false (reads (basic b)) e = refl
     go false other_type e = refl

@@ -9,20 +9,15 @@ ghost use Rattle.read_response.specs.Parts.{judged_of};
 ghost use Rattle.read_response.specs.Refusals.{refusal_of};
 
 // The status of an error response; 0 where the octets are none.
+#[tactic(auto, using(crate::proofs::Cases::error_cases))]
 pub fn error_status(s: &[u8]) -> u8
     ensures { result ≡ (refusal_of (judged_of s.now)).status }
 {
-    if s.len() != 5 {
-        return 0;
-    }
-    if fields::value_at(s, 0, 4) != 0x30030a01 {
+    if s.len() != 5 || fields::value_at(s, 0, 4) != 0x30030a01 {
         return 0;
     }
     let status = s[4];
-    if status == 4 {
-        return 0;
-    }
-    if 6 < status {
+    if status == 4 || 6 < status {
         return 0;
     }
     status

@@ -6,71 +6,51 @@ ghost use Rattle.layout.proofs.Format.{new_oid, extension_body};
 ghost use Rattle.read_oids.specs.Seen.{oids_of};
 ghost use Rattle.read_extension.specs.Pieces.{value, flagged};
 
-use codec::{Fit, Step};
+use codec::Fit;
+use element::Misfit;
 use read_content::Spot;
 
 // An OCTET STRING that fills s.
+#[tactic(auto, using(read_sequence::specs::CaseLaws::string_sum, crate::proofs::BodyCases::value_wrong, crate::proofs::BodyCases::value_filled))]
 fn read_value(s: &[u8]) -> Fit
     ensures { result ≡ fit_of (value.dec s.now) }
 {
-    let value = read_content::read_any_string(s);
-    match value {
-        Spot::Wrong(p) => Fit::Breaks(p),
-        Spot::At { start, len } => {
-            let end = start + len;
-            read_sequence::filled(Step::Taken(end), s.len())
-        }
-    }
+    let value = read_content::read_any_string(s)?;
+    let end = value.start + value.len;
+    read_sequence::filled(Ok(end), s.len())
 }
 
 // Maybe TRUE, then an OCTET STRING that fills s.
+#[tactic(auto, using(crate::proofs::BodyCases::flag_end, crate::proofs::BodyCases::flag_wrong, crate::proofs::BodyCases::flag_after, crate::proofs::BodyCases::flag_none))]
 fn read_flagged(s: &[u8]) -> Fit
     ensures { result ≡ fit_of (flagged.dec s.now) }
 {
     if read_sequence::starts_with(s, 0x01) {
-        let flag = read_codes::read_true(s);
-        match flag {
-            Step::Bad(p) => {
-                return Fit::Breaks(p);
-            }
-            Step::Taken(n) => {
-                let rest = read_value(&s[n..]);
-                return read_sequence::after(n, s.len(), rest);
-            }
-        }
+        let n = read_codes::read_true(s)?;
+        return read_sequence::after(n, s.len(), read_value(&s[n..]));
     }
     read_value(s)
 }
 
 // The OID at the head of x, which is none of those of the first count extensions of s.
+#[tactic(auto, using(crate::proofs::BodyCases::new_wrong, crate::proofs::BodyCases::new_end, crate::proofs::BodyCases::new_sum, crate::proofs::BodyCases::new_pass, crate::proofs::BodyCases::new_fail))]
 fn read_new_oid(s: &[u8], count: usize, x: &[u8]) -> Spot
     ensures { result ≡ spot_of ((new_oid (oids_of count [] s.now)).dec x.now) }
 {
-    let oid = read_content::read_oid(x);
-    match oid {
-        Spot::Wrong(p) => Spot::Wrong(p),
-        Spot::At { start, len } => {
-            let end = start + len;
-            if read_oids::is_new(s, count, &x[start..end]) {
-                Spot::At { start, len }
-            } else {
-                Spot::Wrong(0)
-            }
-        }
+    let oid = read_content::read_oid(x)?;
+    let end = oid.start + oid.len;
+    if read_oids::is_new(s, count, &x[oid.start..end]) {
+        return Ok(oid);
     }
+    Err(Misfit { place: 0 })
 }
 
 // The content x of an extension that stands after the first count of s.
+#[tactic(auto, using(crate::proofs::BodyCases::body_end, crate::proofs::BodyCases::body_sum, crate::proofs::BodyCases::body_wrong, crate::proofs::BodyCases::body_after))]
 pub(crate) fn read_body(s: &[u8], count: usize, x: &[u8]) -> Fit
     ensures { result ≡ fit_of ((extension_body (oids_of count [] s.now)).dec x.now) }
 {
-    let oid = read_new_oid(s, count, x);
-    match oid {
-        Spot::Wrong(p) => Fit::Breaks(p),
-        Spot::At { start, len } => {
-            let end = start + len;
-            let rest = read_flagged(&x[end..]);
-            read_sequence::after(end, x.len(), rest)
-        }
-    }
+    let oid = read_new_oid(s, count, x)?;
+    let end = oid.start + oid.len;
+    read_sequence::after(end, x.len(), read_flagged(&x[end..]))
 }

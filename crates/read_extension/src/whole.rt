@@ -6,19 +6,14 @@ ghost use Rattle.read_oids.specs.Seen.{oids_of};
 
 use crate::body;
 use codec::Step;
-use read_content::Spot;
 
 // The extension at the head of x, which stands after the first count of s.
+#[tactic(auto, using(read_sequence::specs::CaseLaws::tagged_wrong, read_sequence::specs::CaseLaws::tagged_end, read_sequence::specs::CaseLaws::tagged_sum, read_sequence::specs::CaseLaws::tagged_closed), unfolding(layout::proofs::Format::extension_after))]
 pub fn read_extension(s: &[u8], count: usize, x: &[u8]) -> Step
     ensures { result ≡ step_of ((extension_after (oids_of count [] s.now)).dec x.now) }
 {
-    let spot = read_content::expect(x, 0x30);
-    match spot {
-        Spot::Wrong(p) => Step::Bad(p),
-        Spot::At { start, len } => {
-            let end = start + len;
-            let fit = body::read_body(s, count, &x[start..end]);
-            read_sequence::closed(start, end, fit)
-        }
-    }
+    let held = read_content::expect(x, 0x30)?;
+    let end = held.start + held.len;
+    let fit = body::read_body(s, count, &x[held.start..end]);
+    read_sequence::closed(held.start, end, fit)
 }

@@ -5,21 +5,21 @@ use Prim.Native.Nat.{ℕ, zero, suc, ◌+◌, ◌-◌, ◌^◌, ◌≤◌, ◌<�
 use native.Mathlib.Omega.{arith}
 use mathlib.Core.Path.{◌≡◌, refl, sym, ap, ◌∙◌}
 use mathlib.Core.List.{List, [], ◌∷◌}
+use Rattle.std.specs.Prelude.{Ok, Err}
 use lib.ListN.{length, take, drop, length-drop, drop_of_length-le}
 use lib.Seq.{drop-drop}
 use mir.Syntax.{w64}
 use mir.Val.{Fits}
 use Rattle.octets.specs.LentLaws.{rest_is}
+use Rattle.element.specs.Places.{misfit}
+use Rattle.element.specs.declared.Misfit.{Misfit}
 use Rattle.codec.specs.Codec.{got, bad}
 use Rattle.codec.specs.Many.{enough}
 use Rattle.codec.specs.Each.{each_dec}
 use Rattle.codec.proofs.Each.{each_got, each_bad}
 use Rattle.codec.specs.Views.{step_of, fit_of, later}
 use Rattle.codec.proofs.ViewLaws.{step_taken, step_bad, fit_further, later_later}
-use Rattle.codec.specs.declared.Step.{Step}
-use Rattle.codec.specs.declared.Step.TheVariants.{Taken, Bad}
-use Rattle.codec.specs.declared.Fit.{Fit}
-use Rattle.codec.specs.declared.Fit.TheVariants as fit
+use Rattle.codec.specs.Steps.{Step, Fit}
 use Rattle.layout.proofs.ElementKinds.{sequence}
 use Rattle.layout.specs.Reading.{Extension}
 use Rattle.layout.proofs.Format.{extension_after, extension_list}
@@ -47,15 +47,15 @@ each_none seen lo (suc k) = refl
 rest_end : (seen : List (List ℕ)) (count : ℕ) (s : List ℕ) → length s ≤ 0 → rest seen count s ≡ fit_of (enough {A = Extension} (1 - count))
 rest_end seen count s le = rw (drop_of_length-le s le, each_none seen (1 - count) (16 - count))
 
-rest_none : (seen : List (List ℕ)) (count : ℕ) (s : List ℕ) → length s ≤ 0 → count ≡ 0 → rest seen count s ≡ fit.Breaks 0
+rest_none : (seen : List (List ℕ)) (count : ℕ) (s : List ℕ) → length s ≤ 0 → count ≡ 0 → rest seen count s ≡ Err (misfit 0)
 unfolding fit_of
 rest_none seen count s le e = rest_end seen count s le ∙ rw e
 
-rest_some : (seen : List (List ℕ)) (count : ℕ) (s : List ℕ) → length s ≤ 0 → (count ≡ 0 → ⊥) → rest seen count s ≡ fit.Fits
+rest_some : (seen : List (List ℕ)) (count : ℕ) (s : List ℕ) → length s ≤ 0 → (count ≡ 0 → ⊥) → rest seen count s ≡ Ok tt
 unfolding fit_of
 rest_some seen count s le e = let z : 1 - count ≡ 0 = omega arith in rest_end seen count s le ∙ rw z
 
-rest_over : (seen : List (List ℕ)) (count : ℕ) (s : List ℕ) → 0 < length s → count ≡ 16 → rest seen count s ≡ fit.Breaks 0
+rest_over : (seen : List (List ℕ)) (count : ℕ) (s : List ℕ) → 0 < length s → count ≡ 16 → rest seen count s ≡ Err (misfit 0)
 unfolding each_dec fit_of
 rest_over seen count [] h e = absurd (omega arith)
 rest_over seen count (x ∷ s) h e = rw e
@@ -64,7 +64,7 @@ module _ (seen : List (List ℕ)) (count : ℕ) (s : List ℕ) (h : 0 < length s
   one_more : each_dec key read_after seen (1 - count) (16 - count) s ≡ each_dec key read_after seen (1 - count) (suc (16 - (count + 1))) s
   one_more = let k : 16 - count ≡ suc (16 - (count + 1)) = omega arith in rw k
 
-  rest_bad : (p : ℕ) → read_after seen s ≡ bad p → rest seen count s ≡ fit.Breaks p
+  rest_bad : (p : ℕ) → read_after seen s ≡ bad p → rest seen count s ≡ Err (misfit p)
   unfolding fit_of
   rest_bad p e = rw (one_more, each_bad key read_after seen (1 - count) (16 - (count + 1)) s p h e)
 
@@ -87,21 +87,21 @@ pub record Reading (s : List ℕ) (count at : ℕ) : Type 0 where
 
 later_none : (x : Fit) → x ≡ later 0 x
 unfolding later
-later_none fit.Fits = refl
-later_none (fit.Breaks p) = ap fit.Breaks (omega arith)
+later_none (Ok x) = refl
+later_none (Err p) = ap (λ (j : ℕ). Err (misfit j)) (omega arith)
 
 pub list_start : (s : List ℕ) → Reading s 0 0
 unfolding oids_of extension_list
 list_start s = record { le = omega arith; few = omega arith; oids = λ j. let e : 0 + j ≡ j = omega arith in rw e; same = later_none (rest [] 0 s) }
 
 module _ (s : List ℕ) (count at : ℕ) (i : Reading s count at) where
-  pub list_none : length s ≤ at → count ≡ 0 → fit.Breaks at ≡ fit_of (extension_list.dec s)
+  pub list_none : length s ≤ at → count ≡ 0 → Err (misfit at) ≡ fit_of (extension_list.dec s)
   unfolding later
   list_none le e =
       let j = rest_none (oids_of count [] s) count (drop at s) (simp length-drop (omega arith)) e in
-      sym (i.same ∙ ap (later at) j ∙ ap fit.Breaks (omega arith))
+      sym (i.same ∙ ap (later at) j ∙ ap (λ (j : ℕ). Err (misfit j)) (omega arith))
 
-  pub list_some : length s ≤ at → (count ≡ 0 → ⊥) → fit.Fits ≡ fit_of (extension_list.dec s)
+  pub list_some : length s ≤ at → (count ≡ 0 → ⊥) → Ok tt ≡ fit_of (extension_list.dec s)
   unfolding later
   list_some le e =
       let j = rest_some (oids_of count [] s) count (drop at s) (simp length-drop (omega arith)) e in
@@ -111,9 +111,9 @@ module _ (s : List ℕ) (count at : ℕ) (i : Reading s count at) where
     left : 0 < length (drop at s)
     left = simp length-drop (omega arith)
 
-    pub list_over : count ≡ 16 → fit.Breaks at ≡ fit_of (extension_list.dec s)
+    pub list_over : count ≡ 16 → Err (misfit at) ≡ fit_of (extension_list.dec s)
     unfolding later
-    list_over e = sym (i.same ∙ ap (later at) (rest_over (oids_of count [] s) count (drop at s) left e) ∙ ap fit.Breaks (omega arith))
+    list_over e = sym (i.same ∙ ap (later at) (rest_over (oids_of count [] s) count (drop at s) left e) ∙ ap (λ (j : ℕ). Err (misfit j)) (omega arith))
 
     -- the answer for the extension at the place, as the code lends it
     module _ (less : count ≡ 16 → ⊥) (r : Step) (q : r ≡ step_of ((extension_after (oids_of count [] s)).dec (take (length s - at) (drop at s)))) where
@@ -123,18 +123,18 @@ module _ (s : List ℕ) (count at : ℕ) (i : Reading s count at) where
       few : count < 16
       few = omega (arith, i.few)
 
-      pub list_place : (p : ℕ) → r ≡ Bad p → length s < 2 ^ 64 → Fits w64 (at + p)
+      pub list_place : (p : Misfit) → r ≡ Err p → length s < 2 ^ 64 → Fits w64 (at + p.place)
       list_place p b z =
-          let v = (step_bad (extension_after (oids_of count [] s)) (drop at s) p (here ∙ b)).1 in
+          let v = (step_bad (extension_after (oids_of count [] s)) (drop at s) p.place (here ∙ b)).1 in
           record { fits = omega (arith, length-drop at s) }
 
-      pub list_bad : (p : ℕ) → r ≡ Bad p → fit.Breaks (at + p) ≡ fit_of (extension_list.dec s)
+      pub list_bad : (p : Misfit) → r ≡ Err p → Err (misfit (at + p.place)) ≡ fit_of (extension_list.dec s)
       unfolding later
       list_bad p b =
-          let v = (step_bad (extension_after (oids_of count [] s)) (drop at s) p (here ∙ b)).0 in
-          sym (i.same ∙ ap (later at) (rest_bad (oids_of count [] s) count (drop at s) left few p v))
+          let v = (step_bad (extension_after (oids_of count [] s)) (drop at s) p.place (here ∙ b)).0 in
+          sym (i.same ∙ ap (later at) (rest_bad (oids_of count [] s) count (drop at s) left few p.place v))
 
-      module _ (n : ℕ) (b : r ≡ Taken n) where
+      module _ (n : ℕ) (b : r ≡ Ok n) where
         inside : (0 < n) × (at + n ≤ length s)
         inside =
             let v = step_taken (extension_after (oids_of count [] s)) (drop at s) n (here ∙ b) in

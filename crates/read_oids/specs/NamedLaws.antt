@@ -2,13 +2,12 @@
 -- critical, by the octet after the OID.
 -- NamedLaws, named.
 -- Assumes nothing.
-use Rattle.std.specs.Prelude.{ℕ, zero, suc, ◌+◌, ◌-◌, ◌≤◌, ◌<◌, ◌≡◌, refl, Bool, true, false, cond, List, [], ◌∷◌, eqb, length, take, drop}
+use Rattle.std.specs.Prelude.{ℕ, zero, suc, ◌+◌, ◌-◌, ◌≤◌, ◌<◌, ◌≡◌, refl, Bool, true, false, cond, List, [], ◌∷◌, Some, Ok, Err, eqb, length, take, drop}
 use Rattle.std.proofs.Common.{arith, ap, ◌∙◌, length-drop, length-take-le, take-take, drop-drop, drop_at, take-add, eqb-true}
 use Rattle.std.proofs.Math.Option.{Option, none, some}
+use Rattle.element.specs.Places.{HeaderRead, header}
 use Rattle.element.specs.Header.{header_of}
 use Rattle.element.specs.HeaderLaws.{header_inside}
-use Rattle.element.specs.declared.Header.{Header}
-use Rattle.element.specs.declared.Header.TheVariants.{Found, Refused}
 use Rattle.codec.specs.Codec.{Read, read, got, Element}
 use Rattle.codec.proofs.Outcome.{bad_got, attach_got, tested_got, renamed_read, further_read, on_got_read}
 use Rattle.codec.specs.Contents.{octets_read}
@@ -25,14 +24,13 @@ use Rattle.layout.proofs.Format.{new_oid, critical, extension_body, extension_af
 use Rattle.read_content.specs.Spots.{expected}
 use Rattle.read_content.specs.ExpectLaws.{never}
 use Rattle.read_content.specs.PrimitiveLaws.{content_read}
-use Rattle.read_oids.specs.Seen.{named_in, name_of, name_at}
-use Rattle.read_oids.specs.declared.Name.TheVariants as name
+use Rattle.read_oids.specs.Seen.{name, named_in, name_of, name_at}
 
 -- ── what was read of an element with a tag ──
 pub record Tagged {A : Type 0} (t : ℕ) (d : List ℕ → Read A) (s : List ℕ) (a : A) (n : ℕ) : Type 0 where
   pub start : ℕ
   pub len : ℕ
-  pub found : header_of s ≡ Found t start len
+  pub found : header_of s ≡ Ok (header t start len)
   pub content : d (take len (drop start s)) ≡ read a
   pub sum : start + len ≡ n
   pub inside : start + len ≤ length s
@@ -41,18 +39,18 @@ pub tagged_got : {A : Type 0} (at : ℕ → ℕ → ℕ) (t : ℕ) (d : List ℕ
 unfolding tagged_dec
 tagged_got at t d s a n e = go (header_of s) refl e
   where
-    go : (x : Header) → header_of s ≡ x → tagged_of at t d s x ≡ got a n → Tagged t d s a n
-    go (Refused p) q e = bad_got e
-    go (Found u h m) q e =
-        let g = tested_got (eqb u t) _ _ a n e in
-        let r = attach_got (at h) (h + m) (d (take m (drop h s))) a n g.1 in
+    go : (x : HeaderRead) → header_of s ≡ x → tagged_of at t d s x ≡ got a n → Tagged t d s a n
+    go (Err p) q e = bad_got e
+    go (Ok h) q e =
+        let g = tested_got (eqb h.tag t) _ _ a n e in
+        let r = attach_got (at h.start) (h.start + h.len) (d (take h.len (drop h.start s))) a n g.1 in
         record {
-          start = h;
-          len = m;
-          found = rw (eqb-true u t g.0) at q;
+          start = h.start;
+          len = h.len;
+          found = q ∙ ap {B = HeaderRead} (λ (u : ℕ). Ok (header u h.start h.len)) (eqb-true h.tag t g.0);
           content = r.0;
           sum = r.1;
-          inside = (header_inside s u h m q).1;
+          inside = (header_inside s h.tag h.start h.len q).1;
         }
 
 octets_some : (test : List ℕ → Bool) (c x : List ℕ) → octets_read test c ≡ some x → c ≡ x
@@ -126,7 +124,7 @@ body_read seen c a h =
     }
 
 new_read : (seen : List (List ℕ)) (c o : List ℕ) (n : ℕ) → (new_oid seen).dec c ≡ got o n
-    → (u : ℕ) × (l : ℕ) × (header_of c ≡ Found 0x06 u l) × (take l (drop u c) ≡ o) × (u + l ≡ n) × (u + l ≤ length c)
+    → (u : ℕ) × (l : ℕ) × (header_of c ≡ Ok (header 0x06 u l)) × (take l (drop u c) ≡ o) × (u + l ≡ n) × (u + l ≤ length c)
 unfolding new_oid
 new_read seen c o n e =
     let v = tagged_got own 0x06 _ c o n e in
@@ -136,16 +134,16 @@ new_read seen c o n e =
 pub record Named (s : List ℕ) (a : Extension) (n : ℕ) : Type 0 where
   pub start : ℕ
   pub len : ℕ
-  pub is : name_at s ≡ name.Is start len n
+  pub is : name_at s ≡ Some (name start len n)
   pub oid : take len (drop start s) ≡ a.oid
   pub flag : starts_with 0x01 (drop (start + len) s) ≡ a.critical
 
-name_found : (s : List ℕ) (h m u l : ℕ) → header_of s ≡ Found 0x30 h m → header_of (take m (drop h s)) ≡ Found 0x06 u l → name_at s ≡ name.Is (h + u) l (h + m)
+name_found : (s : List ℕ) (h m u l : ℕ) → header_of s ≡ Ok (header 0x30 h m) → header_of (take m (drop h s)) ≡ Ok (header 0x06 u l) → name_at s ≡ Some (name (h + u) l (h + m))
 unfolding name_at name_of named_in expected
 name_found s h m u l e f = rw (e, f)
 
-module _ (s : List ℕ) (a : Extension) (n h m u l : ℕ) (e : header_of s ≡ Found 0x30 h m) (sum : h + m ≡ n) (inside : h + m ≤ length s)
-    (f : header_of (take m (drop h s)) ≡ Found 0x06 u l) (o : take l (drop u (take m (drop h s))) ≡ a.oid)
+module _ (s : List ℕ) (a : Extension) (n h m u l : ℕ) (e : header_of s ≡ Ok (header 0x30 h m)) (sum : h + m ≡ n) (inside : h + m ≤ length s)
+    (f : header_of (take m (drop h s)) ≡ Ok (header 0x06 u l)) (o : take l (drop u (take m (drop h s))) ≡ a.oid)
     (g : starts_with 0x01 (drop (u + l) (take m (drop h s))) ≡ a.critical) (some : 0 < length (drop (u + l) (take m (drop h s)))) where
   long : length (drop h s) ≡ length s - h
   long = length-drop h s

@@ -8,15 +8,11 @@ mod names; // the OID at the head of a list, and those of the first extensions
 
 pub use names::{is_new, name_at};
 
-// The OID of the extension at the head of a part.
-#[derive(Clone, Copy)]
-pub enum Name {
-    // It starts at start and is len octets long; the extension takes next octets.
-    Is {
-        start: usize,
-        len: usize,
-        next: usize,
-    },
-    // There is none.
-    No,
+// The OID of the extension at the head of a part: it starts at start and is len octets long; the
+// extension takes next octets.
+#[derive(Clone, Copy, Debug, PartialEq, Eq)]
+pub struct Name {
+    pub start: usize,
+    pub len: usize,
+    pub next: usize,
 }

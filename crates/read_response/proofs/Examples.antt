@@ -1,14 +1,14 @@
 -- A basic response with every optional part, judged by computing; and what is refused.
 -- full, full_judged; unauthorized, m10, left-over.
 -- Assumes nothing.
-use Rattle.std.specs.Prelude.{ℕ, ◌≡◌, refl, List, [], ◌∷◌, ◌++◌}
+use Rattle.std.specs.Prelude.{ℕ, ◌≡◌, refl, List, [], ◌∷◌, ◌++◌, Some, None, Ok, Err}
+use Rattle.element.specs.Places.{misfit, span}
 use Rattle.layout.proofs.Opened.{opened}
 use Rattle.layout.specs.Examples.{type_element, first, next, hashes, signature}
 use Rattle.layout.specs.Sha1.{sha1}
-use Rattle.answer.specs.declared.Place.TheVariants as place
-use Rattle.read_response.specs.Parts.{span, parts_from, judged_as, judged_of}
+use Rattle.read_response.specs.Parts.{parts_from, judged_as, judged_of}
 use Rattle.read_response.specs.Refusals.{refusal, refusal_of}
-use Rattle.read_response.specs.declared.Judged.TheVariants as judged
+use Rattle.read_response.specs.declared.Unread.TheVariants as unread
 
 -- ── a response of 235 octets, with two entries of 100 and 41 ──
 abbrev revoked_entry : List ℕ
@@ -29,7 +29,7 @@ full =
     ++ signature ++ (0xa0 ∷ 0x04 ∷ 0x30 ∷ 0x02 ∷ 0x30 ∷ 0x00 ∷ [])
 
 -- where its parts are
-full_judged : judged_of full ≡ judged.Basic record {
+full_judged : judged_of full ≡ Ok record {
   signed = span 29 188;
   responder = span 32 6;
   entries = span 58 141;
@@ -44,16 +44,16 @@ full_judged = refl
 
 -- ── refusals ──
 -- an error response gives 4, and its status
-unauthorized : refusal_of (judged_of (0x30 ∷ 0x03 ∷ 0x0a ∷ 0x01 ∷ 0x06 ∷ [])) ≡ refusal 4 6 place.Absent
+unauthorized : refusal_of (judged_of (0x30 ∷ 0x03 ∷ 0x0a ∷ 0x01 ∷ 0x06 ∷ [])) ≡ refusal 4 6 None
 unfolding opened judged_of judged_as refusal_of
 unauthorized = refl
 
 -- M10: 30 03 0A 01 04 gives 3, at the status
-m10 : refusal_of (judged_of (0x30 ∷ 0x03 ∷ 0x0a ∷ 0x01 ∷ 0x04 ∷ [])) ≡ refusal 3 0 (place.At 2)
+m10 : refusal_of (judged_of (0x30 ∷ 0x03 ∷ 0x0a ∷ 0x01 ∷ 0x04 ∷ [])) ≡ refusal 3 0 (Some 2)
 unfolding opened judged_of judged_as refusal_of
 m10 = refl
 
 -- octets after an error response give 3, at the first of them
-left_over : judged_of (0x30 ∷ 0x03 ∷ 0x0a ∷ 0x01 ∷ 0x06 ∷ 0x00 ∷ []) ≡ judged.Unfit 5
+left_over : judged_of (0x30 ∷ 0x03 ∷ 0x0a ∷ 0x01 ∷ 0x06 ∷ 0x00 ∷ []) ≡ Err (unread.Unfit (misfit 5))
 unfolding opened judged_of judged_as
 left_over = refl

@@ -6,4 +6,3 @@ pub mod Stands
 pub mod Sizes
 pub mod BasicCases
 pub mod JudgeCases
-pub mod RefusalCases

@@ -3,7 +3,7 @@
 -- long_judged, unfit_judged, failed_judged, other_judged; other_exactly.
 -- What is judged basic is in JudgedLaws; the definitions are in Parts.
 -- Assumes nothing.
-use Rattle.std.specs.Prelude.{ℕ, ◌-◌, ◌≤◌, ◌<◌, ◌↔◌, ◌≡◌, Bool, List, length}
+use Rattle.std.specs.Prelude.{ℕ, ◌-◌, ◌≤◌, ◌<◌, ◌↔◌, ◌≡◌, Bool, List, length, Ok, Err}
 use Rattle.std.proofs.Math.Path.{refl, ap}
 use Rattle.std.proofs.Common.{◌∙◌, ltb-true, ltb-false, lt-ltb, le-ltb}
 use Rattle.std.proofs.Math.Bool.{true, false, cond}
@@ -12,6 +12,8 @@ use Rattle.octets.specs.Octets.{Octets}
 use Rattle.octets.specs.OctetsLaws.{octets_left, octets_right}
 use Rattle.octets.specs.Same.{same_of}
 use Rattle.octets.specs.SameLaws.{same_true, same_false}
+use Rattle.element.specs.Places.{misfit}
+use Rattle.element.specs.declared.Misfit.{Misfit}
 use Rattle.element.specs.Form.{head_form, form_of}
 use Rattle.content.specs.Oid.{oid_ok}
 use Rattle.codec.specs.Codec.{Read, read, broke}
@@ -26,8 +28,8 @@ use Rattle.layout.specs.Read.{basic_type, Outcome, reads, other_type, unfit, inn
 use Rattle.layout.proofs.Read.{envelope_reading, reading}
 use Rattle.read_content.specs.ExpectLaws.{never}
 use Rattle.read_response.specs.Parts.{judged_as, judged_of}
-use Rattle.read_response.specs.declared.Judged.{Judged}
-use Rattle.read_response.specs.declared.Judged.TheVariants as judged
+use Rattle.read_response.specs.declared.Unread.TheVariants as unread
+use Rattle.read_response.specs.Judged.{Judged}
 
 -- the content of an element that is octets is octets
 form_content : (t : ℕ) (c : List ℕ) → Octets (form_of t c) → Octets c
@@ -80,67 +82,67 @@ other_reads s t c ev n = rw ev (go (same_of t basic_type) refl)
 -- ── what a response is judged to be, by its size and what it reads as ──
 module _ (s : List ℕ) where
   -- a judgement that is not TooLong is the reading's, and the response has at most 16,384 octets
-  read_judged : (j : Judged) → (judged.TooLong ≡ j → ⊥) → judged_of s ≡ j ↔ (length s ≤ 16384) × (judged_as (length s) (reading s) ≡ j)
+  read_judged : (j : Judged) → (Err unread.TooLong ≡ j → ⊥) → judged_of s ≡ j ↔ (length s ≤ 16384) × (judged_as (length s) (reading s) ≡ j)
   unfolding judged_of
   read_judged j n = (λ e. go (ltb 16384 (length s)) refl e, λ (le, r). rw (le-ltb 16384 (length s) le) r)
     where
-      go : (k : Bool) → ltb 16384 (length s) ≡ k → cond k judged.TooLong (judged_as (length s) (reading s)) ≡ j
+      go : (k : Bool) → ltb 16384 (length s) ≡ k → cond k (Err unread.TooLong) (judged_as (length s) (reading s)) ≡ j
           → (length s ≤ 16384) × (judged_as (length s) (reading s) ≡ j)
       go true i e = absurd (n e)
       go false i e = (ltb-false 16384 (length s) i, e)
 
   -- longer than 16,384 octets
-  pub long_judged : judged_of s ≡ judged.TooLong ↔ 16384 < length s
+  pub long_judged : judged_of s ≡ Err unread.TooLong ↔ 16384 < length s
   unfolding judged_of judged_as
   long_judged = (λ e. go (ltb 16384 (length s)) refl e, λ h. rw (lt-ltb 16384 (length s) h))
     where
-      on : (o : Outcome) → judged_as (length s) o ≡ judged.TooLong → ⊥
+      on : (o : Outcome) → judged_as (length s) o ≡ Err unread.TooLong → ⊥
       on (reads (basic b)) e = never (cc)
       on (reads (failed n)) e = never (cc)
       on other_type e = never (cc)
       on (unfit p) e = never (cc)
 
-      go : (k : Bool) → ltb 16384 (length s) ≡ k → cond k judged.TooLong (judged_as (length s) (reading s)) ≡ judged.TooLong → 16384 < length s
+      go : (k : Bool) → ltb 16384 (length s) ≡ k → cond k (Err unread.TooLong) (judged_as (length s) (reading s)) ≡ Err unread.TooLong → 16384 < length s
       go true i e = ltb-true 16384 (length s) i
       go false i e = absurd (on (reading s) e)
 
   -- not longer, and reading as nothing
-  pub unfit_judged : (p : ℕ) → judged_of s ≡ judged.Unfit p ↔ (length s ≤ 16384) × (reading s ≡ unfit p)
+  pub unfit_judged : (p : ℕ) → judged_of s ≡ Err (unread.Unfit (misfit p)) ↔ (length s ≤ 16384) × (reading s ≡ unfit p)
   unfolding judged_as
   unfit_judged p = (
-    λ e. let (le, i) = (read_judged (judged.Unfit p) (λ (f : judged.TooLong ≡ judged.Unfit p). never (cc))).0 e in (le, on (reading s) i),
-    λ (le, r). (read_judged (judged.Unfit p) (λ (f : judged.TooLong ≡ judged.Unfit p). never (cc))).1 (le, rw r),
+    λ e. let (le, i) = (read_judged (Err (unread.Unfit (misfit p))) (λ (f : ◌≡◌ {A = Judged} (Err unread.TooLong) (Err (unread.Unfit (misfit p)))). never (cc))).0 e in (le, on (reading s) i),
+    λ (le, r). (read_judged (Err (unread.Unfit (misfit p))) (λ (f : ◌≡◌ {A = Judged} (Err unread.TooLong) (Err (unread.Unfit (misfit p)))). never (cc))).1 (le, rw r),
   )
     where
-      on : (o : Outcome) → judged_as (length s) o ≡ judged.Unfit p → o ≡ unfit p
+      on : (o : Outcome) → judged_as (length s) o ≡ Err (unread.Unfit (misfit p)) → o ≡ unfit p
       on (reads (basic b)) e = never (cc)
       on (reads (failed n)) e = never (cc)
       on other_type e = never (cc)
-      on (unfit r) e = let i : r ≡ p = cc in ap unfit i
+      on (unfit r) e = let i : misfit r ≡ misfit p = cc in ap (λ (m : Misfit). unfit m.place) i
 
   -- not longer, and an error response
-  pub failed_judged : (n : ℕ) → judged_of s ≡ judged.Failed n ↔ (length s ≤ 16384) × (reading s ≡ reads (failed n))
+  pub failed_judged : (n : ℕ) → judged_of s ≡ Err (unread.Failed n) ↔ (length s ≤ 16384) × (reading s ≡ reads (failed n))
   unfolding judged_as
   failed_judged n = (
-    λ e. let (le, i) = (read_judged (judged.Failed n) (λ (f : judged.TooLong ≡ judged.Failed n). never (cc))).0 e in (le, on (reading s) i),
-    λ (le, r). (read_judged (judged.Failed n) (λ (f : judged.TooLong ≡ judged.Failed n). never (cc))).1 (le, rw r),
+    λ e. let (le, i) = (read_judged (Err (unread.Failed n)) (λ (f : ◌≡◌ {A = Judged} (Err unread.TooLong) (Err (unread.Failed n))). never (cc))).0 e in (le, on (reading s) i),
+    λ (le, r). (read_judged (Err (unread.Failed n)) (λ (f : ◌≡◌ {A = Judged} (Err unread.TooLong) (Err (unread.Failed n))). never (cc))).1 (le, rw r),
   )
     where
-      on : (o : Outcome) → judged_as (length s) o ≡ judged.Failed n → o ≡ reads (failed n)
+      on : (o : Outcome) → judged_as (length s) o ≡ Err (unread.Failed n) → o ≡ reads (failed n)
       on (reads (basic b)) e = never (cc)
       on (reads (failed m)) e = let i : m ≡ n = cc in ap (λ (k : ℕ). reads (failed k)) i
       on other_type e = never (cc)
       on (unfit p) e = never (cc)
 
   -- not longer, and of another type
-  pub other_judged : judged_of s ≡ judged.OtherType ↔ (length s ≤ 16384) × (reading s ≡ other_type)
+  pub other_judged : judged_of s ≡ Err unread.OtherType ↔ (length s ≤ 16384) × (reading s ≡ other_type)
   unfolding judged_as
   other_judged = (
-    λ e. let (le, i) = (read_judged judged.OtherType (λ (f : judged.TooLong ≡ judged.OtherType). never (cc))).0 e in (le, on (reading s) i),
-    λ (le, r). (read_judged judged.OtherType (λ (f : judged.TooLong ≡ judged.OtherType). never (cc))).1 (le, rw r),
+    λ e. let (le, i) = (read_judged (Err unread.OtherType) (λ (f : ◌≡◌ {A = Judged} (Err unread.TooLong) (Err unread.OtherType)). never (cc))).0 e in (le, on (reading s) i),
+    λ (le, r). (read_judged (Err unread.OtherType) (λ (f : ◌≡◌ {A = Judged} (Err unread.TooLong) (Err unread.OtherType)). never (cc))).1 (le, rw r),
   )
     where
-      on : (o : Outcome) → judged_as (length s) o ≡ judged.OtherType → o ≡ other_type
+      on : (o : Outcome) → judged_as (length s) o ≡ Err unread.OtherType → o ≡ other_type
       on (reads (basic b)) e = never (cc)
       on (reads (failed n)) e = never (cc)
       on other_type e = refl
@@ -149,7 +151,7 @@ module _ (s : List ℕ) where
 -- a response is of another type exactly where it is the form of a successful envelope, of at most 16,384 octets, whose type
 -- keeps the OID rule and is not the basic one
 pub other_exactly : (s : List ℕ) → Octets s
-    → judged_of s ≡ judged.OtherType
+    → judged_of s ≡ Err unread.OtherType
     ↔ (length s ≤ 16384) × ((t c : List ℕ) × (s ≡ envelope.enc (success t c)) × (oid_ok t ≡ true) × (t ≡ basic_type → ⊥))
 other_exactly s o = (
   λ e.

@@ -4,12 +4,14 @@
 -- Assumes nothing.
 use Prim.Native.Nat.{ℕ, ◌+◌, ◌-◌, ◌≤◌}
 use native.Mathlib.Omega.{arith}
-use mathlib.Core.Path.{◌≡◌, sym}
+use mathlib.Core.Path.{◌≡◌, sym, ap}
 use mathlib.Core.List.{List, ◌∷◌}
 use mathlib.Core.Option.{Option}
+use Rattle.std.specs.Prelude.{Ok}
 use lib.ListN.{length, length-append}
 use Rattle.octets.specs.Octets.{Octets}
 use Rattle.element.specs.FormLaws.{form_length}
+use Rattle.element.specs.Places.{span}
 use Rattle.codec.specs.Codec.{read}
 use Rattle.codec.specs.Option.{option_enc}
 use Rattle.codec.specs.Many.{forms}
@@ -17,15 +19,11 @@ use Rattle.codec.specs.Tree.{Tree}
 use Rattle.layout.specs.Reading.{Algorithm, Entry, Signed, Basic}
 use Rattle.layout.specs.Names.{fields_of}
 use Rattle.layout.proofs.Format.{single_response, responses, extensions, signed_fields, signed_body, algorithm_identifier, signature_bits, certificates, basic_body}
-use Rattle.read_response.specs.Parts.{span, parts_from, responses_size, entries_size, signed_size, algorithm_size}
+use Rattle.read_response.specs.Parts.{parts_from, responses_size, entries_size, signed_size, algorithm_size}
 use Rattle.read_response.specs.Placed.{front_at, tailed}
-use Rattle.read_response.specs.declared.basics.Body.TheVariants as body
-use Rattle.read_basic.specs.Views.{version_size, responder_size, produced_size, inside_at, inside_signed, signature_on, algorithm_on, tail_of, entries_place, entries_length}
-use Rattle.read_basic.specs.MoreLaws.{place_inside}
+use Rattle.read_basic.specs.Views.{inside, InsideRead, TailRead, version_size, responder_size, produced_size, inside_at, inside_signed, signature_on, algorithm_on, tail_of, entries_place, entries_length}
 use Rattle.read_basic.specs.declared.Inside.{Inside}
-use Rattle.read_basic.specs.declared.Inside.TheVariants as inside
-use Rattle.read_basic.specs.declared.Tail.{Tail}
-use Rattle.read_basic.specs.declared.Tail.TheVariants as tail
+use Rattle.read_basic.specs.MoreLaws.{place_inside, place_read}
 
 -- ── sizes of forms ──
 entries_short : (l : List Entry) → entries_length l ≤ length (responses.enc l)
@@ -53,13 +51,11 @@ unfolding basic_body
 basic_length b = simp length-append (omega arith)
 
 -- ── the entries end inside the signed part's content, and the signature inside what follows it ──
-abbrev pub inside_end : Inside → ℕ
-inside_end (inside.Holds v r f m k) = v + f + m
-inside_end (inside.Broken p) = p
+abbrev pub inside_end : InsideRead → ℕ
+inside_end = place_read (λ x. x.from + x.start + x.len)
 
-abbrev pub tail_end : Tail → ℕ
-tail_end (tail.Holds a g h) = g + h
-tail_end (tail.Broken p) = p
+abbrev pub tail_end : TailRead → ℕ
+tail_end = place_read (λ t. t.start + t.len)
 
 pub inside_ends : (s : List ℕ) → Octets s → inside_end (inside_signed (signed_body.dec s)) ≤ length s
 unfolding inside_signed inside_at
@@ -83,19 +79,20 @@ made d x = record { signed = d; algorithm = x.0; signature = x.1.0; certificates
 abbrev signature_place : Rest → ℕ
 signature_place x = length (algorithm_identifier.enc x.0) + (length (signature_bits.enc x.1.0) - length x.1.0)
 
-module _ (d : Signed) (x : Rest) (at b e n v r f m k : ℕ) (i : inside_signed (read d) ≡ inside.Holds v r f m k)
+module _ (d : Signed) (x : Rest) (at b e n v r f m k : ℕ) (i : inside_signed (read d) ≡ Ok (inside v r f m k))
     (whole : signed_size (made d x) ≡ e) (held : b + fields_size d ≡ e) (all : length (basic_body.enc (made d x)) ≡ n) where
-  pub parts_same : tailed (front_at at b e r f m k) n (tail_of (read x)) ≡ body.Holds (parts_from at (made d x))
+  pub parts_same : tailed (front_at at b e r f m k) n (tail_of (read x)) ≡ Ok (parts_from at (made d x))
   unfolding parts_from tailed tail_of inside_signed inside_at
   parts_same =
       let E = entries_short d.entries in
       let G = signature_short x.1.0 in
       let D = fields_length d in
       let B = basic_length (made d x) in
-      let i₁ : r ≡ responder_size d = cc in
-      let i₂ : f ≡ responder_size d + (produced_size d + entries_place d.entries) = cc in
-      let i₃ : m ≡ entries_size d = cc in
-      let i₄ : k ≡ length d.entries = cc in
+      let q : inside v r f m k ≡ inside_at (version_size d) (fields_of d) = cc in
+      let i₁ : r ≡ responder_size d = ap (λ (x : Inside). x.responder) q in
+      let i₂ : f ≡ responder_size d + (produced_size d + entries_place d.entries) = ap (λ (x : Inside). x.start) q in
+      let i₃ : m ≡ entries_size d = ap (λ (x : Inside). x.len) q in
+      let i₄ : k ≡ length d.entries = ap (λ (x : Inside). x.count) q in
       let p₁ : e ≡ signed_size (made d x) = sym whole in
       let p₂ : at + b ≡ at + (signed_size (made d x) - fields_size d) = omega arith in
       let p₃ : at + b + f ≡ at + (signed_size (made d x) - fields_size d) + (responder_size d + produced_size d) + (responses_size d - entries_size d) = omega arith in
@@ -105,7 +102,7 @@ module _ (d : Signed) (x : Rest) (at b e n v r f m k : ℕ) (i : inside_signed (
       let p₇ : at + e + signature_place x ≡ at + (signed_size (made d x) + (algorithm_size (made d x) + length (signature_bits.enc x.1.0))) - length x.1.0 = omega arith in
       let p₈ : at + e + signature_place x + length x.1.0 ≡ at + (signed_size (made d x) + (algorithm_size (made d x) + length (signature_bits.enc x.1.0))) = omega arith in
       let p₉ : at + n - (at + e + signature_place x + length x.1.0) ≡ length (option_enc certificates.enc x.1.1) = omega arith in
-      λ j. body.Holds record {
+      λ j. Ok record {
         signed = span at (p₁ j);
         responder = span (p₂ j) (i₁ j);
         entries = span (p₃ j) (i₃ j);

@@ -6,7 +6,7 @@
 -- Assumes nothing.
 use Rattle.std.specs.Prelude.{ℕ, ◌+◌, ◌-◌, ◌≡◌, refl, List, [], ◌∷◌, ◌++◌, length, take, drop}
 use Rattle.std.proofs.Common.{arith, ap, ◌∙◌, append_assoc, append-nil, length-append, take_at, drop_at}
-use Rattle.read_response.specs.Parts.{span}
+use Rattle.element.specs.Places.{span}
 use Rattle.read_response.specs.Stands.{Fields, Pieces, Stands}
 
 -- they are between what is before and what is after

@@ -1,10 +1,12 @@
 -- Where the parts of a basic response are: each stands after the forms of the parts before it. The
 -- basic response's own content is the last octets of the response.
--- span; responses_size, entries_size, responses_at, responder_span, entries_span, extensions_span; signed_size,
+-- responses_size, entries_size, responses_at, responder_span, entries_span, extensions_span; signed_size,
 -- fields_at, algorithm_size, signature_end, parts_from, parts_in; judged_as, judged_of. That the octets there are
 -- the parts' forms is in PartsLaws.
 -- Assumes nothing.
-use Rattle.std.specs.Prelude.{ℕ, ◌+◌, ◌-◌, cond, List, ltb, length}
+use Rattle.std.specs.Prelude.{ℕ, ◌+◌, ◌-◌, cond, List, ltb, length, Ok, Err}
+use Rattle.element.specs.Places.{misfit, span}
+use Rattle.element.specs.declared.Span.{Span}
 use Rattle.codec.specs.Option.{option_enc}
 use Rattle.codec.specs.Many.{forms}
 use Rattle.layout.specs.Reading.{Signed, Basic, failed, basic}
@@ -13,13 +15,9 @@ use Rattle.layout.proofs.Format.{algorithm_identifier, extensions, single_respon
 use Rattle.layout.specs.Read.{Outcome, reads, other_type, unfit}
 use Rattle.layout.proofs.Read.{reading}
 use Rattle.read_basic.specs.Views.{responder_size, produced_size}
-use Rattle.read_response.specs.declared.Span.{Span}
 use Rattle.read_response.specs.declared.Parts.{Parts}
-use Rattle.read_response.specs.declared.Judged.{Judged}
-use Rattle.read_response.specs.declared.Judged.TheVariants as judged
-
-abbrev pub span : ℕ → ℕ → Span
-span at n = record { start = at; len = n }
+use Rattle.read_response.specs.declared.Unread.TheVariants as unread
+use Rattle.read_response.specs.Judged.{Judged}
 
 -- the parts of a signed part whose fields, without a version, start at a place
 abbrev pub responses_size : Signed → ℕ
@@ -74,11 +72,11 @@ parts_in s b = parts_from (length s - length (basic_body.enc b)) b
 
 -- what a response of this size is
 unfoldable pub judged_as : ℕ → Outcome → Judged
-judged_as n (reads (basic b)) = judged.Basic (parts_from (n - length (basic_body.enc b)) b)
-judged_as n (reads (failed c)) = judged.Failed c
-judged_as n other_type = judged.OtherType
-judged_as n (unfit p) = judged.Unfit p
+judged_as n (reads (basic b)) = Ok (parts_from (n - length (basic_body.enc b)) b)
+judged_as n (reads (failed c)) = Err (unread.Failed c)
+judged_as n other_type = Err unread.OtherType
+judged_as n (unfit p) = Err (unread.Unfit (misfit p))
 
 -- a response longer than 16,384 octets is not looked at
 unfoldable pub judged_of : List ℕ → Judged
-judged_of s = cond (ltb 16384 (length s)) judged.TooLong (judged_as (length s) (reading s))
+judged_of s = cond (ltb 16384 (length s)) (Err unread.TooLong) (judged_as (length s) (reading s))

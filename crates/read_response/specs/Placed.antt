@@ -2,14 +2,12 @@
 -- front_at, the parts of the signed part; parts_at, with those that follow it; tailed, by what follows it.
 -- The same parts by their forms are in Parts.
 -- Assumes nothing.
-use Rattle.std.specs.Prelude.{ℕ, ◌+◌, ◌-◌}
-use Rattle.read_basic.specs.declared.Tail.{Tail}
-use Rattle.read_basic.specs.declared.Tail.TheVariants as tail
-use Rattle.read_response.specs.Parts.{span}
+use Rattle.std.specs.Prelude.{ℕ, ◌+◌, ◌-◌, Result, Ok, Err}
+use Rattle.element.specs.Places.{misfit, span}
+use Rattle.element.specs.declared.Misfit.{Misfit}
+use Rattle.read_basic.specs.Views.{TailRead}
 use Rattle.read_response.specs.declared.Parts.{Parts}
 use Rattle.read_response.specs.declared.basics.Front.{Front}
-use Rattle.read_response.specs.declared.basics.Body.{Body}
-use Rattle.read_response.specs.declared.basics.Body.TheVariants as body
 
 -- a signed part at a place, whose responder id is at b and takes r, and which ends at e: the k entries are at f after b and take m
 abbrev pub front_at : (at b e r f m k : ℕ) → Front
@@ -39,6 +37,6 @@ parts_at x a g h n = record {
 }
 
 -- by what follows the signed part, in a content of n octets
-unfoldable pub tailed : Front → ℕ → Tail → Body
-tailed x n (tail.Holds a g h) = body.Holds (parts_at x a g h (x.signed.start + n))
-tailed x n (tail.Broken p) = body.Broken (after_signed x + p)
+unfoldable pub tailed : Front → ℕ → TailRead → Result Parts Misfit
+tailed x n (Ok t) = Ok (parts_at x t.algorithm t.start t.len (x.signed.start + n))
+tailed x n (Err p) = Err (misfit (after_signed x + p.place))

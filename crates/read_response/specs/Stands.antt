@@ -5,7 +5,7 @@
 -- The definitions stand here; the laws, and what is made of them, in proofs/Stands.
 -- Assumes nothing.
 use Rattle.std.specs.Prelude.{ℕ, ◌+◌, ◌≤◌, ◌≡◌, List, [], ◌∷◌, ◌++◌, length, take, drop}
-use Rattle.read_response.specs.declared.Span.{Span}
+use Rattle.element.specs.declared.Span.{Span}
 
 -- these octets are at that place of the list, and end inside it
 pub record Stands (s : List ℕ) (at : Span) (x : List ℕ) : Type 0 where

@@ -4,23 +4,20 @@
 // No public function here has a requirement. A response is gone over once; nothing is copied.
 #![tactic(auto)]
 
+ghost use Rattle.std.specs.Prelude.{◌≡◌};
+ghost use Rattle.read_response.specs.declared.Unread.TheVariants.{Unfit};
+
 mod basics; // the basic response
 mod refusals; // the refusal
 mod whole; // the response as a whole
 
-use answer::Place;
+use element::Misfit;
+pub use element::Span;
 pub use refusals::{refusal_of, refuse};
 pub use whole::judge;
 
-// Some octets of a response: where they start, and how many they are.
-#[derive(Clone, Copy)]
-pub struct Span {
-    pub start: usize,
-    pub len: usize,
-}
-
 // The parts of a basic response.
-#[derive(Clone, Copy)]
+#[derive(Clone, Copy, Debug, PartialEq, Eq)]
 pub struct Parts {
     // The signed part, header included.
     pub signed: Span,
@@ -40,28 +37,35 @@ pub struct Parts {
     pub certificates: Span,
 }
 
-// What a response is, before any question is asked.
-#[derive(Clone, Copy)]
-pub enum Judged {
-    // A basic response, and where its parts are.
-    Basic(Parts),
+// Why a response is no basic response, before any question is asked.
+#[derive(Clone, Copy, Debug, PartialEq, Eq)]
+pub enum Unread {
     // Longer than 16,384 octets (2).
     TooLong,
     // Not of the layout, with the place (3).
-    Unfit(usize),
+    Unfit(Misfit),
     // An error response, with its status (4).
     Failed(u8),
     // A response of another type (5).
     OtherType,
 }
 
+// What stands at a wrong place does not fit the layout.
+impl From<Misfit> for Unread {
+    ghost from_gives = { λ m u. u ≡ Unfit m };
+
+    fn from(misfit: Misfit) -> Unread {
+        Unread::Unfit(misfit)
+    }
+}
+
 // What is refused before any question is asked.
-#[derive(Clone, Copy)]
+#[derive(Clone, Copy, Debug, PartialEq, Eq)]
 pub struct Refusal {
     // Document 01's number, 2 to 5; 0 where there is no refusal.
     pub number: u8,
     // The response status, with 4; else 0.
     pub status: u8,
     // The place that does not fit, with 3; else none.
-    pub place: Place,
+    pub place: Option<usize>,
 }

@@ -3,26 +3,25 @@
 ghost use Rattle.std.specs.Prelude.{◌≡◌};
 ghost use Rattle.read_response.specs.Parts.{judged_of};
 
-use crate::{Judged, basics};
+use crate::{Parts, Unread, basics};
 use read_envelope::Cover;
 
 // What a response is, before any question is asked.
-pub fn judge(s: &[u8]) -> Judged
+#[tactic(auto, using(crate::proofs::JudgeCases::whole_cases))]
+pub fn judge(s: &[u8]) -> Result<Parts, Unread>
     ensures { result ≡ judged_of s.now }
 {
     if 16384 < s.len() {
-        return Judged::TooLong;
+        return Err(Unread::TooLong);
     }
-    let cover = read_envelope::read_envelope(s);
-    match cover {
-        Cover::Broken(p) => Judged::Unfit(p),
-        Cover::Failed(status) => Judged::Failed(status),
+    match read_envelope::read_envelope(s)? {
+        Cover::Failed(status) => Err(Unread::Failed(status)),
         Cover::Holds { basic, len } => {
             if basic {
                 let from = s.len() - len;
                 basics::judge_basic(&s[from..], from)
             } else {
-                Judged::OtherType
+                Err(Unread::OtherType)
             }
         }
     }

@@ -5,27 +5,21 @@ ghost use Rattle.codec.specs.Views.{step_of, fit_of};
 ghost use Rattle.layout.proofs.Format.{v1, version};
 
 use codec::{Fit, Step};
-use read_content::Spot;
 
 // The number 0 and nothing more.
+#[tactic(auto, using(read_sequence::specs::CaseLaws::filled_only))]
 fn version_alone(s: &[u8]) -> Fit
     ensures { result ≡ fit_of ((only v1).dec s.now) }
 {
-    let step = read_codes::read_v1(s);
-    read_sequence::filled(step, s.len())
+    read_sequence::filled(read_codes::read_v1(s), s.len())
 }
 
 // version [0].
+#[tactic(auto, using(read_sequence::specs::CaseLaws::tagged_wrong, read_sequence::specs::CaseLaws::tagged_end, read_sequence::specs::CaseLaws::tagged_sum, read_sequence::specs::CaseLaws::tagged_closed), unfolding(layout::proofs::Format::version))]
 pub fn read_version(s: &[u8]) -> Step
     ensures { result ≡ step_of (version.dec s.now) }
 {
-    let spot = read_content::expect(s, 0xa0);
-    match spot {
-        Spot::Wrong(p) => Step::Bad(p),
-        Spot::At { start, len } => {
-            let end = start + len;
-            let body = version_alone(&s[start..end]);
-            read_sequence::closed(start, end, body)
-        }
-    }
+    let held = read_content::expect(s, 0xa0)?;
+    let end = held.start + held.len;
+    read_sequence::closed(held.start, end, version_alone(&s[held.start..end]))
 }

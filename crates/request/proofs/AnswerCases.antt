@@ -1,6 +1,6 @@
 -- The cases of the function that writes the request for a card: what each return has learned.
 -- size_inside, size_taken, taken_few, taken_room; unfit_answer, unfit_kept; few, size_fits; short_answer, short_kept;
--- written_answer, written_in.
+-- written_answer, written_in; all in request_cases.
 -- Assumes nothing.
 use Prim.Native.Nat.{ℕ, ◌+◌, ◌≤◌, ◌<◌}
 use native.Mathlib.Omega.{arith}
@@ -77,3 +77,5 @@ module _ (card : Card) (out : List ℕ) (r : Bool) (q : r ≡ card_ok card) wher
     pub written_in : (p : List ℕ) → p ≡ put_in out 0 (request_of card) → p ≡ output_in (request_refusal card) out (request_of card)
     unfolding output_in
     written_in p e = e ∙ rw fits
+
+pub ruleset request_cases = (size_inside, size_taken, taken_few, taken_room, unfit_answer, unfit_kept, few, size_fits, short_answer, short_kept, written_answer, written_in)

@@ -19,15 +19,15 @@ use Rattle.rule_matching.specs.Known.{null_of}
 unfoldable pub single_request : Element CertId
 single_request = sequence (only cert_id)
 
--- request_list ::= SEQUENCE OF Request, one
+-- requestList: SEQUENCE OF Request, one
 unfoldable pub request_list : Element CertId
 request_list = sequence (only single_request)
 
--- TBSRequest ::= SEQUENCE { request_list }
+-- TBSRequest ::= SEQUENCE { requestList }
 unfoldable pub tbs_request : Element CertId
 tbs_request = sequence (only request_list)
 
--- OCSPRequest ::= SEQUENCE { tbs_request }, and nothing follows it
+-- OCSPRequest ::= SEQUENCE { tbsRequest }, and nothing follows it
 unfoldable pub ocsp_request : Whole CertId
 ocsp_request = only (sequence (only tbs_request))
 

@@ -7,6 +7,7 @@ ghost use Rattle.request.specs.Heads.{front_form};
 
 // Writes what stands before the name hash: the headers of five sequences, the algorithm identifier, and
 // the hash's own header. Every length is below 128 and 57, 59, .. 65 more than the serial's.
+#[tactic(auto, using(crate::proofs::WriteCases::front_in))]
 pub(crate) fn put_front(out: &mut [u8], size: u8)
     requires { (size ≤ 20) × (23 ≤ length out.old) }
     ensures { out.new ≡ put_in out.old 0 (front_form null_head 20 (57 + size)) }
@@ -29,6 +30,7 @@ pub(crate) fn put_front(out: &mut [u8], size: u8)
 }
 
 // Writes the name hash, and the key hash with its header.
+#[tactic(auto, using(crate::proofs::WriteCases::hashes_in))]
 pub(crate) fn put_hashes(out: &mut [u8], name: &[u8], key: &[u8])
     requires { (length name.now ≡ 20) × (length key.now ≡ 20) × (65 ≤ length out.old) }
     ensures { out.new ≡ put_in out.old 23 (name.now ++ form_of 0x04 key.now) }
@@ -40,6 +42,7 @@ pub(crate) fn put_hashes(out: &mut [u8], name: &[u8], key: &[u8])
 
 // Writes the serial's octets. Sixteen or more are written as the first sixteen and the last four, which
 // overlap: parts of a fixed size are copied without a call.
+#[tactic(auto, using(crate::proofs::WriteCases::first_taken, crate::proofs::WriteCases::over_in))]
 fn put_octets(out: &mut [u8], serial: &[u8])
     requires { (length serial.now ≤ 20) × (67 + length serial.now ≤ length out.old) }
     ensures { out.new ≡ put_in out.old 67 serial.now }
@@ -54,6 +57,7 @@ fn put_octets(out: &mut [u8], serial: &[u8])
 }
 
 // Writes the serial with its header.
+#[tactic(auto, using(crate::proofs::WriteCases::serial_in_lem))]
 pub(crate) fn put_serial(out: &mut [u8], serial: &[u8])
     requires { (length serial.now ≤ 20) × (67 + length serial.now ≤ length out.old) }
     ensures { out.new ≡ put_in out.old 65 (form_of 0x02 serial.now) }

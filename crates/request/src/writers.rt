@@ -10,6 +10,7 @@ use answer::Card;
 use fields::Output;
 
 // Writes the request for both hashes and the serial at the start.
+#[tactic(auto, using(crate::proofs::WriteCases::request_in_lem))]
 fn put_request(out: &mut [u8], name: &[u8], key: &[u8], serial: &[u8])
     requires { (length name.now ≡ 20) × (length key.now ≡ 20) × (length serial.now ≤ 20) × (67 + length serial.now ≤ length out.old) }
     ensures { out.new ≡ put_in out.old 0 (request_form null_head name.now key.now serial.now) }
@@ -21,6 +22,7 @@ fn put_request(out: &mut [u8], name: &[u8], key: &[u8], serial: &[u8])
 
 // Writes the request for a card at the start, and answers how many octets it has: 67 and the serial's.
 // A card that does not fit gets 1, then a buffer that is too short 18; both leave the buffer as it was.
+#[tactic(auto, using(crate::proofs::AnswerCases::request_cases))]
 pub fn write_request(card: Card, out: &mut [u8]) -> Output
     ensures value { result ≡ output_of (request_refusal card) (length out.old) (length (request_of card)) }
     ensures out_after { out.new ≡ output_in (request_refusal card) out.old (request_of card) }
@@ -28,15 +30,11 @@ pub fn write_request(card: Card, out: &mut [u8]) -> Output
     if !answer::card_fits(card) {
         return Output::Refused(1);
     }
-    let size = card.size;
-    let n = 67 + size;
+    let n = 67 + card.size;
     if out.len() < n {
         return Output::Refused(18);
     }
-    let name = card.name;
-    let key = card.key;
-    let field = card.serial;
-    let serial = &field[..size];
-    put_request(out, &name, &key, serial);
+    let serial = &card.serial[..card.size];
+    put_request(out, &card.name, &card.key, serial);
     Output::Octets(n)
 }

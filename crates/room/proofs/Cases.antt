@@ -1,9 +1,10 @@
 -- What the program knows of its answer. What it knows of its reading is in crate desk_intake (ReadLaws).
--- answers_end, answers_more, answers_failed, inside.
+-- answers_end, answers_none, inside.
 -- Assumes nothing.
 use Prim.Native.Nat.{ℕ, ◌≤◌}
 use native.Mathlib.Omega.{arith}
 use mathlib.Core.Path.{◌≡◌, ap, subst, ◌∙◌}
+use mathlib.Core.Logic.{◌⊎◌, ⊎_elim}
 use mathlib.Core.List.{List, []}
 use lib.ListN.{length, get_or, take}
 use mir.Syntax.{w8}
@@ -56,16 +57,12 @@ module _ (space : List ℕ) (input : Input) (r : Reply) (line₀ line cache₀ c
 
   module _ (v : r ≡ replied_to (length line₀) (length cache₀) []) (w : line ≡ put_in line₀ 0 (hex_line (reply_of []))) (x : cache ≡ put_in cache₀ 0 (cache_of [])) where
     -- where reading failed, and where it did not come to the end: the answer to an empty input
-    empty : (l : List ℕ) → l ≡ [] → (take r.line line ≡ hex_line (reply_of l)) × (take r.cache cache ≡ cache_of l)
-    empty l e = rw e (written [] tt (v, w, x))
-
-    pub answers_more : (n : ℕ) → input ≡ More n → Answers space input r line cache
+    pub answers_none : ((n : ℕ) × (input ≡ More n)) ⊎ (input ≡ Failed) → Answers space input r line cache
     unfolding Answers
-    answers_more n e l h = empty l (subst (λ (i : Input). ReadAs space i l) e h)
-
-    pub answers_failed : input ≡ Failed → Answers space input r line cache
-    unfolding Answers
-    answers_failed e l h = empty l (subst (λ (i : Input). ReadAs space i l) e h)
+    answers_none e l h =
+        let none : l ≡ [] =
+        ⊎_elim (λ (n, i). subst (λ (i : Input). ReadAs space i l) i h) (λ i. subst (λ (i : Input). ReadAs space i l) i h) e in
+        rw none (written [] tt (v, w, x))
 
 pub inside : (r : Reply) (s line₀ line cache₀ cache : List ℕ) → r ≡ replied_to (length line₀) (length cache₀) s
     → line ≡ put_in line₀ 0 (hex_line (reply_of s)) → cache ≡ put_in cache₀ 0 (cache_of s) → Inside r line cache

@@ -15,7 +15,7 @@
 #![tactic(auto)]
 
 ghost use Rattle.std.specs.Prelude.{◌≤◌, length};
-ghost use Rattle.desk_intake.specs.Read.{Onward, WasRead};
+ghost use Rattle.desk_intake.specs.Read.{WasRead};
 ghost use Rattle.cache_line.specs.Input.{cache_room_least};
 ghost use Rattle.cache_line.specs.SizeLaws.{line_most, cache_most};
 ghost use Rattle.room.specs.Answers.{Answers, Inside};
@@ -23,50 +23,10 @@ ghost use Rattle.room.specs.Answers.{Answers, Inside};
 use cache_line::{CACHE, LINE, ROOM, Reply};
 use desk_intake::Input;
 use std::io;
-use std::io::{Eprint, Read};
-
-// Tells on standard error that a read failed, and in the system's words how. Where that cannot be
-// written, nobody is left to be told.
-fn tell_failure(rt: &impl Eprint, error: io::Error) {
-    let _ = eprintln!(rt; "room: standard input: {error}");
-}
-
-// Reads once more, and keeps what came after the octets that are kept.
-fn read_more<R: Read>(rt: &impl Eprint, reader: &mut R, space: &mut [u8], done: usize) -> Input
-    ensures { Onward space.old done space.new result }
-{
-    let mut chunk = [0u8; 4096];
-    match reader.read(&mut chunk) {
-        Ok(0) => Input::End(done),
-        Ok(n) => {
-            let next = desk_intake::keep(space, done, &chunk[..n]);
-            Input::More(next)
-        }
-        Err(error) => {
-            tell_failure(rt, error);
-            Input::Failed
-        }
-    }
-}
-
-// Reads to the end. A proved loop has to end, so it counts its turns, up to a number that no run
-// reaches.
-fn read_all<R: Read>(rt: &impl Eprint, reader: &mut R, space: &mut [u8]) -> Input
-    ensures { WasRead space.new result }
-{
-    let mut done = 0;
-    for _ in 0..u64::MAX {
-        match read_more(rt, reader, space, done) {
-            Input::More(next) => done = next,
-            Input::End(n) => return Input::End(n),
-            Input::Failed => return Input::Failed,
-        }
-    }
-    Input::Failed
-}
 
 // Answers the input that was read, or an empty one where reading failed. In a space with room enough, and
 // buffers with room for every answer, the answer is that to the whole input, and all of it is there.
+#[tactic(auto, using(crate::proofs::Cases::answers_end, crate::proofs::Cases::answers_none, crate::proofs::Cases::inside))]
 fn answer_input(space: &[u8], input: Input, line: &mut [u8], cache: &mut [u8]) -> Reply
     requires cache_room_least_in_bounds { cache_room_least ≤ length space.now }
     requires was_read { WasRead space.now input }
@@ -76,9 +36,8 @@ fn answer_input(space: &[u8], input: Input, line: &mut [u8], cache: &mut [u8]) -
     ensures inside { Inside result line.new cache.new }
 {
     match input {
-        Input::More(_) => cache_line::answer_for(&space[..0], line, cache),
         Input::End(n) => cache_line::answer_for(&space[..n], line, cache),
-        Input::Failed => cache_line::answer_for(&space[..0], line, cache),
+        Input::More(_) | Input::Failed => cache_line::answer_for(&[], line, cache),
     }
 }
 
@@ -90,14 +49,12 @@ fn say_input(rt: &impl Print, space: &[u8], input: Input) -> io::Result<()>
     let mut line = [0u8; LINE];
     let mut cache = [0u8; CACHE];
     let reply = answer_input(space, input, &mut line, &mut cache);
-    let said = reply.line;
-    let handed = reply.cache;
-    rt.write_all(&line[..said])?;
-    rt.write_all(&cache[..handed])
+    rt.write_all(&line[..reply.line])?;
+    rt.write_all(&cache[..reply.cache])
 }
 
 fn main(rt: HostRuntime) -> io::Result<()> {
     let mut space = [0u8; ROOM];
-    let input = read_all(&rt, &mut rt.stdin(), &mut space);
+    let input = desk_intake::read_all(&rt, "room", &mut rt.stdin(), &mut space);
     say_input(&rt, &space, input)
 }

@@ -1,5 +1,7 @@
 -- The cases of one card: what the search finds lies inside the octets of the entries.
+-- card_none, card_two, card_end, card_sum, card_one, in card_cases.
 -- Assumes nothing.
+use Rattle.std.specs.Prelude.{Ok, Err}
 use Prim.Native.Nat.{ℕ, zero, suc, ◌+◌, ◌-◌, ◌^◌, ◌≤◌, ◌<◌}
 use native.Mathlib.Omega.{arith}
 use mathlib.Core.Path.{◌≡◌, refl, sym, ◌∙◌}
@@ -10,8 +12,7 @@ use mir.Syntax.{w64}
 use mir.Val.{Fits}
 use Rattle.element.specs.Header.{header_of}
 use Rattle.element.specs.HeaderLaws.{header_inside}
-use Rattle.element.specs.declared.Header.{Header}
-use Rattle.element.specs.declared.Header.TheVariants as header
+use Rattle.element.specs.Places.{HeaderRead}
 use Rattle.answer.specs.Verdict.{refused}
 use Rattle.answer.specs.declared.Card.{Card}
 use Rattle.answer.specs.declared.Answer.{Answer}
@@ -45,15 +46,15 @@ module _ (card : Card) (m d : ℕ) (t : List ℕ) (at i : ℕ) (so : Found) (le 
   abbrev next : ℕ → Found
   next n = noted (is_here card t) i at n so
 
-  on_header_lem : (x : Header) → header_of t ≡ x
+  on_header_lem : (x : HeaderRead) → header_of t ≡ x
       → ((n : ℕ) → at + n + length (drop n t) ≤ m → In m (next n) → In m (search_from card d (drop n t) (at + n) (i + 1) (next n)))
       → In m (on_header so x (λ n. cond (is_two (next n)) (next n) (search_from card d (drop n t) (at + n) (i + 1) (next n))))
   unfolding on_header
-  on_header_lem (header.Refused p) e on = v
-  on_header_lem (header.Found u h n) e on =
-      let k = (header_inside t u h n e).1 in
-      let w = noted_in m (is_here card t) i at (h + n) so (omega arith) v in
-      cond_in m (is_two (next (h + n))) (next (h + n)) _ w (on (h + n) (omega (arith, length-drop (h + n) t)) w)
+  on_header_lem (Err p) e on = v
+  on_header_lem (Ok h) e on =
+      let k = (header_inside t h.tag h.start h.len e).1 in
+      let w = noted_in m (is_here card t) i at (h.start + h.len) so (omega arith) v in
+      cond_in m (is_two (next (h.start + h.len))) (next (h.start + h.len)) _ w (on (h.start + h.len) (omega (arith, length-drop (h.start + h.len) t)) w)
 
 search_in : (card : Card) (m d : ℕ) (t : List ℕ) (at i : ℕ) (so : Found) → at + length t ≤ m → In m so → In m (search_from card d t at i so)
 unfolding search_from
@@ -85,3 +86,5 @@ module _ (q : Question) (s : List ℕ) (w : Found) (x : w ≡ search_of q.card s
     pub card_one : (a : Answer) → a ≡ seen_ruled q (take (b + n - b) (drop b s)) → a ≡ card_ruled q s
     unfolding card_ruled found_ruled
     card_one a h = let k : b + n - b ≡ n = omega arith in rw (sym x ∙ e) (rw k at h)
+
+pub ruleset card_cases = (card_none, card_two, card_end, card_sum, card_one)

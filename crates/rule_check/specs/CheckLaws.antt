@@ -1,9 +1,9 @@
 -- The check cut in two says what the table says: the response judged as a whole (2 to 9), then one card
 -- (10 to 16).
 -- CardKnown, card_known; check_by_parts, error_answer. The definitions are in CardRuled and EntryRuled, in Opened of crate
--- opened and in Ruling of crate rules; a question out of range is out-of-range in RefusalLaws of crate rules.
+-- rule_response and in Ruling of crate rules; a question out of range is out-of-range in RefusalLaws of crate rules.
 -- Assumes nothing.
-use Rattle.std.specs.Prelude.{ℕ, ◌-◌, ◌^◌, ◌≤◌, ◌<◌, ◌≡◌, Bool, cond, ◌&&◌, List, [], ◌∷◌, get_or, drop}
+use Rattle.std.specs.Prelude.{ℕ, ◌-◌, ◌^◌, ◌≤◌, ◌<◌, ◌≡◌, Bool, cond, ◌&&◌, List, [], ◌∷◌, get_or, drop, Ok, Err}
 use native.Mathlib.Omega.{arith}
 use Rattle.std.proofs.Math.Path.{refl, sym, ap}
 use Rattle.std.proofs.Common.{◌∙◌, Fits}
@@ -30,8 +30,8 @@ use Rattle.read_response.specs.Parts.{parts_from, judged_as, judged_of}
 use Rattle.read_response.proofs.PartsLaws.{entries_stand}
 use Rattle.read_response.specs.declared.Parts.{Parts}
 use Rattle.read_response.specs.Refusals.{refusal_of}
-use Rattle.read_response.specs.declared.Judged.{Judged}
-use Rattle.read_response.specs.declared.Judged.TheVariants as judged
+use Rattle.read_response.specs.Judged.{Judged}
+use Rattle.read_response.specs.declared.Unread.TheVariants as unread
 use Rattle.answer.specs.Verdict.{refused}
 use Rattle.answer.specs.Card.{serial_in}
 use Rattle.answer.specs.CardLaws.{field_exactly}
@@ -148,11 +148,11 @@ module _ (q : Question) (name s : List ℕ) (range : in_range q name ≡ true) (
 
   -- judged as a whole, then for the card: what the table says of a question in range
   pub check_by_parts : answer_of q name s ≡ opened_ruled q s (opened_of q name s)
-  unfolding opened_of judged_of opened_by judged_as opened_ruled refused
+  unfolding opened_of judged_of opened_by judged_as opened_ruled refused refusal_of
   check_by_parts = go (ltb 16384 (length s)) refl (reading s) refl
     where
       go : (t : Bool) → ltb 16384 (length s) ≡ t → (x : Outcome) → reading s ≡ x
-          → answer_of q name s ≡ opened_ruled q s (opened_by q name s (cond t judged.TooLong (judged_as (length s) x)))
+          → answer_of q name s ≡ opened_ruled q s (opened_by q name s (cond t (Err unread.TooLong) (judged_as (length s) x)))
       go true h x r = row_2 q name s range h
       go false h (unfit p) r = row_3 q name s range h p r
       go false h other_type r = row_5 q name s range h r
@@ -165,8 +165,8 @@ module _ (q : Question) (name s : List ℕ) (range : in_range q name ≡ true) (
   error_answer n i k = check_by_parts ∙ go (judged_of s) i
     where
       go : (j : Judged) → n ≡ (refusal_of j).status → opened_ruled q s (opened_by q name s j) ≡ refused 4 n
-      go (judged.Failed c) i = rw i
-      go (judged.Basic p) i = absurd (k i)
-      go judged.TooLong i = absurd (k i)
-      go (judged.Unfit p) i = absurd (k i)
-      go judged.OtherType i = absurd (k i)
+      go (Err (unread.Failed c)) i = rw i
+      go (Ok p) i = absurd (k i)
+      go (Err unread.TooLong) i = absurd (k i)
+      go (Err (unread.Unfit p)) i = absurd (k i)
+      go (Err unread.OtherType) i = absurd (k i)

@@ -1,27 +1,19 @@
 -- The answer for the only entry for the card, as the code finds it: its extensions, then its times,
 -- then its status.
--- reason_for, verdict_for, fresh_ruled, until_ruled, view_ruled, seen_ruled; entry_ruled. That this is what
+-- verdict_for, fresh_ruled, until_ruled, view_ruled, seen_ruled; entry_ruled. That this is what
 -- the table says from refusal 12 on is in EntryRuledLaws.
 -- Assumes nothing.
-use Rattle.std.specs.Prelude.{ℕ, cond, List, take, drop}
+use Rattle.std.specs.Prelude.{ℕ, cond, List, take, drop, Option, Some, None, Ok, Err}
 use Rattle.layout.specs.Reading.{Entry}
 use Rattle.read_critical.specs.Strange.{strange_of}
 use Rattle.read_entry_values.specs.Looks.{standing_of, until_of, seen_in}
-use Rattle.read_entry_values.specs.declared.Why.{Why}
-use Rattle.read_entry_values.specs.declared.Why.TheVariants as why
 use Rattle.read_entry_values.specs.declared.Standing.{Standing}
 use Rattle.read_entry_values.specs.declared.Standing.TheVariants as standing
-use Rattle.read_entry_values.specs.declared.Until.{Until}
-use Rattle.read_entry_values.specs.declared.Until.TheVariants as until
 use Rattle.read_entry_values.specs.declared.View.{View}
-use Rattle.freshness.specs.Fresh.{fresh_of}
-use Rattle.freshness.specs.declared.Next.TheVariants as next
-use Rattle.freshness.specs.declared.Freshness.{Freshness}
-use Rattle.freshness.specs.declared.Freshness.TheVariants.{Fresh, Endless, Reversed, Early, Late}
+use Rattle.freshness.specs.Fresh.{Freshness, fresh_of}
+use Rattle.freshness.specs.declared.Missed.TheVariants.{Endless, Reversed, Early, Late}
 use Rattle.answer.specs.Verdict.{saying, refused}
 use Rattle.answer.specs.declared.Card.{Card}
-use Rattle.answer.specs.declared.Reason.{Reason}
-use Rattle.answer.specs.declared.Reason.TheVariants as reason
 use Rattle.answer.specs.declared.Verdict.{Verdict}
 use Rattle.answer.specs.declared.Verdict.TheVariants.{Good, Revoked, Unknown}
 use Rattle.answer.specs.declared.Answer.{Answer}
@@ -29,30 +21,25 @@ use Rattle.rules.specs.declared.Question.{Question}
 use Rattle.rules.specs.Signer.{in_entry, strange_in}
 use Rattle.rule_tests.specs.StrangePlace.{is_place, entry_known}
 
--- a reason, or its absence
-unfoldable pub reason_for : Why → Reason
-reason_for why.Absent = reason.Absent
-reason_for (why.Given n) = reason.Given n
-
 -- what a status says, with thisUpdate and nextUpdate
 unfoldable pub verdict_for : Standing → ℕ → ℕ → Verdict
 verdict_for standing.Good this next = Good this next
 verdict_for standing.Unknown this next = Unknown this next
-verdict_for (standing.Revoked t r) this next = Revoked this next t (reason_for r)
+verdict_for (standing.Revoked t r) this next = Revoked this next t r
 
 -- by whether it counts: accepted for the card, or the first rule that its times miss
 unfoldable pub fresh_ruled : Card → Standing → ℕ → ℕ → Freshness → Answer
-fresh_ruled card st this next Fresh = saying (verdict_for st this next) card
-fresh_ruled card st this next Endless = refused 13 0
-fresh_ruled card st this next (Reversed n) = refused 14 0
-fresh_ruled card st this next (Early n) = refused 15 0
-fresh_ruled card st this next (Late n) = refused 16 0
+fresh_ruled card st this next (Ok x) = saying (verdict_for st this next) card
+fresh_ruled card st this next (Err Endless) = refused 13 0
+fresh_ruled card st this next (Err (Reversed n)) = refused 14 0
+fresh_ruled card st this next (Err (Early n)) = refused 15 0
+fresh_ruled card st this next (Err (Late n)) = refused 16 0
 
 -- by its nextUpdate
-unfoldable pub until_ruled : Question → Standing → ℕ → Until → Answer
-until_ruled q st this until.Absent = refused 13 0
-until_ruled q st this (until.At end) =
-    fresh_ruled q.card st this end (fresh_of this (next.At end) q.now q.tolerance)
+unfoldable pub until_ruled : Question → Standing → ℕ → Option ℕ → Answer
+until_ruled q st this None = refused 13 0
+until_ruled q st this (Some end) =
+    fresh_ruled q.card st this end (fresh_of this (Some end) q.now q.tolerance)
 
 -- by its values, and the octets where its extensions are
 unfoldable pub view_ruled : Question → List ℕ → View → Answer

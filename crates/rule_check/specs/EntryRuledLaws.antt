@@ -1,7 +1,7 @@
 -- The only entry for the card against the table: from refusal 12 on the check answers what the entry's reading says.
 -- seen_ruled_lem; entry_answer. The definitions are in EntryRuled, and in Order and Ruling of crate rules.
 -- Assumes nothing.
-use Rattle.std.specs.Prelude.{ℕ, ◌^◌, ◌<◌, ◌≡◌, Bool, ◌&&◌, List, [], ◌∷◌, eqb, ltb, length}
+use Rattle.std.specs.Prelude.{ℕ, ◌^◌, ◌<◌, ◌≡◌, Bool, ◌&&◌, List, [], ◌∷◌, eqb, ltb, length, Err, Ok, Some}
 use Rattle.std.proofs.Common.{arith, ◌∙◌, append-nil}
 use Rattle.std.proofs.Math.Path.{refl, ap}
 use Rattle.std.proofs.Math.Bool.{true, false, cond}
@@ -18,10 +18,8 @@ use Rattle.read_entry_values.specs.Looks.{standing_of, until_of, entry_seen}
 use Rattle.read_entry_values.specs.SeenLaws.{seen_entry}
 use Rattle.read_entry_values.specs.SeenEndLaws.{entry_extensions}
 use Rattle.rule_tests.specs.StrangeInLaws.{strange_entry}
-use Rattle.freshness.specs.Fresh.{fresh_of, fresh_refusal}
-use Rattle.freshness.specs.declared.Next.TheVariants as next
-use Rattle.freshness.specs.declared.Freshness.{Freshness}
-use Rattle.freshness.specs.declared.Freshness.TheVariants.{Fresh, Endless, Reversed, Early, Late}
+use Rattle.freshness.specs.Fresh.{Freshness, fresh_of, fresh_refusal}
+use Rattle.freshness.specs.declared.Missed.TheVariants.{Endless, Reversed, Early, Late}
 use Rattle.answer.specs.Verdict.{refused}
 use Rattle.rules.specs.declared.Question.{Question}
 use Rattle.rules.specs.Question.{in_range}
@@ -30,11 +28,11 @@ use Rattle.rules.specs.Order.{entries_for, lacks_mark, next_in, missed}
 use Rattle.rules.specs.Ruling.{said, answer_of}
 use Rattle.rules.proofs.TimesLaws.{missed_13}
 use Rattle.rules.proofs.RowLaws.{row_12, row_13, row_14, row_15, row_16, row_none}
-use Rattle.rule_check.specs.EntryRuled.{reason_for, verdict_for, fresh_ruled, until_ruled, view_ruled, seen_ruled, entry_ruled}
+use Rattle.rule_check.specs.EntryRuled.{verdict_for, fresh_ruled, until_ruled, view_ruled, seen_ruled, entry_ruled}
 
 -- ── a status ──
 verdict_said : (x : Status) (this end : ℕ) → said x this end ≡ verdict_for (standing_of x) this end
-unfolding verdict_for reason_for
+unfolding verdict_for
 verdict_said good this end = refl
 verdict_said unknown this end = refl
 verdict_said (revoked t none) this end = refl
@@ -74,18 +72,18 @@ module _ (q : Question) (name s : List ℕ) (range : in_range q name ≡ true) (
     times_ruled : (u : Option ℕ) → e.next_update ≡ u → answer_of q name s ≡ until_ruled q (standing_of e.status) e.this_update (until_of u)
     unfolding until_ruled fresh_ruled
     times_ruled none i = row_13 q name s range size b r valid signer marks clear e one known ((missed_13 q e).1 i)
-    times_ruled (some end) i = go (fresh_of e.this_update (next.At end) q.now q.tolerance) refl
+    times_ruled (some end) i = go (fresh_of e.this_update (Some end) q.now q.tolerance) refl
       where
-        miss : (f : Freshness) → fresh_of e.this_update (next.At end) q.now q.tolerance ≡ f → missed q e ≡ fresh_refusal f
+        miss : (f : Freshness) → fresh_of e.this_update (Some end) q.now q.tolerance ≡ f → missed q e ≡ fresh_refusal f
         miss f h = ap (λ (u : Option ℕ). fresh_refusal (fresh_of e.this_update (next_in u) q.now q.tolerance)) i ∙ ap fresh_refusal h
 
-        go : (f : Freshness) → fresh_of e.this_update (next.At end) q.now q.tolerance ≡ f
-            → answer_of q name s ≡ fresh_ruled q.card (standing_of e.status) e.this_update end (fresh_of e.this_update (next.At end) q.now q.tolerance)
-        go Fresh h = rw h (rw (← verdict_said e.status e.this_update end) (row_none q name s range size b r valid signer marks clear e one known end i (miss Fresh h)))
-        go Endless h = rw h (row_13 q name s range size b r valid signer marks clear e one known (miss Endless h))
-        go (Reversed n) h = rw h (row_14 q name s range size b r valid signer marks clear e one known (miss (Reversed n) h))
-        go (Early n) h = rw h (row_15 q name s range size b r valid signer marks clear e one known (miss (Early n) h))
-        go (Late n) h = rw h (row_16 q name s range size b r valid signer marks clear e one known (miss (Late n) h))
+        go : (f : Freshness) → fresh_of e.this_update (Some end) q.now q.tolerance ≡ f
+            → answer_of q name s ≡ fresh_ruled q.card (standing_of e.status) e.this_update end (fresh_of e.this_update (Some end) q.now q.tolerance)
+        go (Ok x) h = rw h (rw (← verdict_said e.status e.this_update end) (row_none q name s range size b r valid signer marks clear e one known end i (miss (Ok x) h)))
+        go (Err Endless) h = rw h (row_13 q name s range size b r valid signer marks clear e one known (miss (Err Endless) h))
+        go (Err (Reversed n)) h = rw h (row_14 q name s range size b r valid signer marks clear e one known (miss (Err (Reversed n)) h))
+        go (Err (Early n)) h = rw h (row_15 q name s range size b r valid signer marks clear e one known (miss (Err (Early n)) h))
+        go (Err (Late n)) h = rw h (row_16 q name s range size b r valid signer marks clear e one known (miss (Err (Late n)) h))
 
   -- the only entry for the card
   pub entry_answer : answer_of q name s ≡ entry_ruled q e

@@ -6,27 +6,18 @@ ghost use Rattle.rule_check.specs.CardRuled.{card_ruled, opened_ruled};
 
 use crate::entries;
 use answer::Answer;
-use rule_response::Opened;
 use rule_search::Found;
 use rules::Question;
 
 // What a response that is not refused says of the card, by the octets of its entries.
+#[tactic(auto, using(crate::proofs::CardCases::card_cases))]
 fn rule_card(q: Question, part: &[u8]) -> Answer
     ensures { result ≡ card_ruled q part.now }
 {
-    let card = q.card;
-    let found = rule_search::search(part, card);
-    match found {
+    match rule_search::search(part, q.card) {
         Found::None(_) => answer::refuse(10, 0),
-        Found::Two {
-            first: _,
-            second: _,
-        } => answer::refuse(11, 0),
-        Found::One {
-            ordinal: _,
-            start,
-            len,
-        } => {
+        Found::Two { .. } => answer::refuse(11, 0),
+        Found::One { start, len, .. } => {
             let end = start + len;
             entries::rule_entry(q, &part[start..end])
         }
@@ -34,19 +25,15 @@ fn rule_card(q: Question, part: &[u8]) -> Answer
 }
 
 // What a response says for a question whose ranges are kept: judged as a whole, then for the card.
+#[tactic(auto, using(crate::proofs::CheckCases::rule_cases), unfolding(crate::specs::CardRuled::opened_ruled))]
 fn rule(q: Question, name: &[u8], s: &[u8]) -> Answer
     ensures { result ≡ opened_ruled q s.now (opened_of q name.now s.now) }
 {
-    let opened = rule_response::open(q, name, s);
-    match opened {
-        Opened::Refused {
-            number,
-            status,
-            place,
-        } => answer::refuse_at(number, status, place),
-        Opened::Clear { start, len } => {
-            let end = start + len;
-            rule_card(q, &s[start..end])
+    match rule_response::open(q, name, s) {
+        Err(refusal) => answer::refuse_at(refusal.number, refusal.status, refusal.place),
+        Ok(entries) => {
+            let end = entries.start + entries.len;
+            rule_card(q, &s[entries.start..end])
         }
     }
 }

@@ -1,7 +1,7 @@
 -- The cases of a CertID's octets compared with fields: the last octet, then one of two heads.
--- last_none; long_name, long_key, long_serial, other_last, null_same, plain_same.
+-- long_name, long_key, long_serial, other_last, null_same, plain_same, in field_cases.
 -- The comparison with one head is in FormCases. Assumes nothing.
-use Prim.Native.Nat.{ℕ, ◌+◌, ◌-◌, ◌≤◌, ◌<◌}
+use Prim.Native.Nat.{ℕ, ◌-◌, ◌≤◌, ◌<◌}
 use native.Mathlib.Omega.{arith}
 use mathlib.Core.Path.{◌≡◌, refl, sym, ap, ◌∙◌}
 use mathlib.Core.Bool.{Bool, true, false, ◌||◌, or-false}
@@ -17,10 +17,6 @@ use Rattle.rule_matching.proofs.FieldsLaws.{fields_card}
 use Rattle.rule_matching.proofs.FormCases.{short_form, short_length}
 
 -- ---- the last octet
-
-pub last_none : (s : List ℕ) → length s ≡ 0 → 0 ≡ last_of s
-last_none [] e = refl
-last_none (x ∷ s) e = absurd (omega arith)
 
 last_cons : (x : ℕ) (r : List ℕ) → 0 < length r → last_of (x ∷ r) ≡ last_of r
 last_cons x [] h = absurd (omega arith)
@@ -96,3 +92,5 @@ module _ (name key serial part : List ℕ) where
           pub plain_same : r ≡ false → (w : Bool) → w ≡ same_of part (card_form plain_head name key serial) → w ≡ is_fields name key serial part
           unfolding is_card_octets
           plain_same t w i = sym (fields_card name key serial part n k s ∙ simp (← e, t, ← i, or-false))
+
+pub ruleset field_cases = (long_name, long_key, long_serial, other_last, null_same, plain_same)

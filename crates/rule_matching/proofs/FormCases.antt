@@ -1,14 +1,16 @@
 -- The cases of the functions that compare a CertID's octets: what each return has learned of them.
+-- short_form, short_length; other_size, other_tag, other_length, content_same, in element_cases; other_end, other_serial,
+-- other_name, other_key, head_same, in form_cases.
 -- Assumes nothing.
 use Prim.Native.Nat.{ℕ, ◌+◌, ◌-◌, ◌<◌}
 use native.Mathlib.Omega.{arith}
 use mathlib.Core.Path.{◌≡◌, refl, sym, ap, ◌∙◌}
-use mathlib.Core.Bool.{Bool, true, false, not, cond, ◌&&◌, and-true, and-false}
+use mathlib.Core.Bool.{Bool, true, false, cond, ◌&&◌, and-true, and-false}
 use mathlib.Core.List.{List, [], ◌∷◌, ◌++◌}
 use lib.Dec.{eqb}
 use lib.ListN.{length, get_or, take, drop, length-append, length-drop}
 use lib.Seq.{take_all, drop-drop}
-use borrow.Author.Tests.{eq-eqb, ne_eqb, not-true, not-false}
+use borrow.Author.Tests.{eq-eqb, ne_eqb}
 use Rattle.octets.specs.Same.{same_of}
 use Rattle.octets.specs.SameLaws.{same_short}
 use Rattle.element.specs.Form.{form_of}
@@ -108,19 +110,26 @@ module _ (part head name key serial : List ℕ) (p : length name < 128) (q : len
           z,
         )
 
-    module _ (w : Bool) where
-      pub other_serial : w ≡ same_of (take (end_at - serial_at) (drop serial_at part)) (form_of 0x02 serial) → not w ≡ true → false ≡ whole
-      other_serial e t = sym (by_parts ∙ simp (← e, not-true w t, and-false))
+    module _ (w : Bool) (t : w ≡ false) where
+      pub other_serial : w ≡ same_of (take (end_at - serial_at) (drop serial_at part)) (form_of 0x02 serial) → false ≡ whole
+      other_serial e = sym (by_parts ∙ simp (← e, t, and-false))
 
-      pub other_name : w ≡ same_of (take (key_at - length head) (drop (length head) part)) (form_of 0x04 name) → not w ≡ true → false ≡ whole
-      other_name e t = sym (by_parts ∙ simp (← e, not-true w t, and-false))
+      pub other_name : w ≡ same_of (take (key_at - length head) (drop (length head) part)) (form_of 0x04 name) → false ≡ whole
+      other_name e = sym (by_parts ∙ simp (← e, t, and-false))
 
-      pub other_key : w ≡ same_of (take (serial_at - key_at) (drop key_at part)) (form_of 0x04 key) → not w ≡ true → false ≡ whole
-      other_key e t = sym (by_parts ∙ simp (← e, not-true w t, and-false))
+      pub other_key : w ≡ same_of (take (serial_at - key_at) (drop key_at part)) (form_of 0x04 key) → false ≡ whole
+      other_key e = sym (by_parts ∙ simp (← e, t, and-false))
 
-    module _ (x y z : Bool) (s : not z ≡ false) (n : not x ≡ false) (k : not y ≡ false)
+    module _ (x y z : Bool) (s : z ≡ true) (n : x ≡ true) (k : y ≡ true)
         (f : z ≡ same_of (take (end_at - serial_at) (drop serial_at part)) (form_of 0x02 serial))
         (g : x ≡ same_of (take (key_at - length head) (drop (length head) part)) (form_of 0x04 name))
         (h : y ≡ same_of (take (serial_at - key_at) (drop key_at part)) (form_of 0x04 key)) where
-      pub head_same : (w : Bool) → w ≡ same_of (take (length head - 0) (drop 0 part)) head → w ≡ whole
-      head_same w e = sym (by_parts ∙ simp (← e, ← f, ← g, ← h, not-false z s, not-false x n, not-false y k, and-true))
+      pub head_same : (w : Bool) → w ≡ same_of (take (length head) part) head → w ≡ whole
+      head_same w e =
+          let m : length head - 0 ≡ length head = omega arith in
+          let i : w ≡ same_of (take (length head - 0) (drop 0 part)) head = e ∙ ap (λ (j : ℕ). same_of (take j part) head) (sym m) in
+          sym (by_parts ∙ simp (← i, ← f, ← g, ← h, s, n, k, and-true))
+
+pub ruleset element_cases = (other_size, other_tag, other_length, content_same)
+
+pub ruleset form_cases = (other_end, other_serial, other_name, other_key, head_same)

@@ -4,6 +4,7 @@ use Prim.Native.Nat.{ℕ, ◌+◌, ◌-◌, ◌%◌, ◌≤◌}
 use mathlib.Core.Path.{◌≡◌, sym, ◌∙◌}
 use mathlib.Core.Bool.{Bool, true, false, not}
 use mathlib.Core.List.{List}
+use Rattle.std.specs.Prelude.{None, Ok, Err}
 use lib.Dec.{eqb}
 use lib.ListN.{length, get_or, take, drop}
 use borrow.Author.Tests.{eq-eqb, ne_eqb, not-true, not-false}
@@ -11,7 +12,8 @@ use mir.Syntax.{w8}
 use mir.Val.{Fits}
 use Rattle.octets.specs.Octets.{Octets}
 use Rattle.octets.specs.OctetsLaws.{octets_from}
-use Rattle.octets.specs.LentLaws.{part_is}
+use Rattle.octets.specs.LentLaws.{Known, known_octets, part_is}
+use Rattle.element.specs.declared.Span.{Span}
 use Rattle.layout.specs.Reading.{Basic, basic}
 use Rattle.layout.specs.Read.{reads}
 use Rattle.layout.proofs.Read.{reading}
@@ -19,17 +21,15 @@ use Rattle.layout.proofs.Format.{basic_body}
 use Rattle.read_critical.specs.Strange.{strange_of}
 use Rattle.read_response.specs.Parts.{parts_from, judged_of}
 use Rattle.read_response.proofs.PartsLaws.{responder_stands, extensions_stand}
-use Rattle.read_response.specs.declared.Span.{Span}
+use Rattle.read_response.specs.Refusals.{refusal, refusal_of}
 use Rattle.read_response.specs.declared.Parts.{Parts}
-use Rattle.read_response.specs.declared.Judged.{Judged}
-use Rattle.read_response.specs.declared.Judged.TheVariants as judged
-use Rattle.answer.specs.declared.Place.TheVariants as place
+use Rattle.read_response.specs.declared.Refusal.{Refusal}
+use Rattle.read_response.specs.declared.Unread.{Unread}
+use Rattle.read_response.specs.Judged.{Judged}
 use Rattle.rules.specs.declared.Question.{Question}
 use Rattle.rule_tests.specs.StrangePlace.{is_place, response_known}
-use Rattle.rule_response.specs.declared.Opened.{Opened}
-use Rattle.rule_response.specs.declared.Opened.TheVariants.{Refused, Clear}
 use Rattle.rule_response.specs.SignerIn.{signs_in}
-use Rattle.rule_response.specs.Opened.{lacks, refusal_in, number_opened, parts_opened, opened_by, opened_of}
+use Rattle.rule_response.specs.Opened.{Opened, lacks, refusal_in, number_opened, parts_opened, opened_by, opened_of}
 use Rattle.rule_response.specs.OpenedLaws.{judged_basic}
 
 -- ── the marks ──
@@ -68,59 +68,52 @@ module _ (q : Question) (name responder extensions : List ℕ) where
         response_clear h = rw (eq-eqb q.verdict 1 v, ← x, not-false g k, ← y, j, ← z, h)
 
 -- ── the parts ──
-module _ (q : Question) (name s : List ℕ) (p : Parts) (n : ℕ)
-    (x : n ≡ refusal_in q name (take (p.responder.start + p.responder.len - p.responder.start) (drop p.responder.start s)) (take (p.extensions.start + p.extensions.len - p.extensions.start) (drop p.extensions.start s))) where
-  number_is : n ≡ refusal_in q name (take p.responder.len (drop p.responder.start s)) (take p.extensions.len (drop p.extensions.start s))
-  number_is = rw (part_is p.responder.start p.responder.len s, part_is p.extensions.start p.extensions.len s) at x
+module _ (q : Question) (name s : List ℕ) (p : Parts) where
+  -- by the number, from the octets of the parts as the code lends them
+  number_is : (n : ℕ) → refusal_in q name (take (p.responder.start + p.responder.len - p.responder.start) (drop p.responder.start s)) (take (p.extensions.start + p.extensions.len - p.extensions.start) (drop p.extensions.start s)) ≡ n
+      → refusal_in q name (take p.responder.len (drop p.responder.start s)) (take p.extensions.len (drop p.extensions.start s)) ≡ n
+  number_is n x = rw (part_is p.responder.start p.responder.len s, part_is p.extensions.start p.extensions.len s) at x
 
-  pub parts_refused : (n ≡ 0 → ⊥) → Refused n 0 place.Absent ≡ parts_opened q name s p
-  unfolding parts_opened number_opened
-  parts_refused h = rw (← number_is, ne_eqb n 0 h)
+  module _ (n : ℕ) (x : refusal_in q name (take (p.responder.start + p.responder.len - p.responder.start) (drop p.responder.start s)) (take (p.extensions.start + p.extensions.len - p.extensions.start) (drop p.extensions.start s)) ≡ n) where
+    pub parts_refused : (n ≡ 0 → ⊥) → parts_opened q name s p ≡ Err (refusal n 0 None)
+    unfolding parts_opened number_opened
+    parts_refused h = rw (number_is n x, ne_eqb n 0 h)
 
-  pub parts_clear : n ≡ 0 → Clear p.entries.start p.entries.len ≡ parts_opened q name s p
-  unfolding parts_opened number_opened
-  parts_clear h = rw (← number_is, eq-eqb n 0 h)
+    pub parts_clear : n ≡ 0 → parts_opened q name s p ≡ Ok p.entries
+    unfolding parts_opened number_opened
+    parts_clear h = rw (number_is n x, eq-eqb n 0 h)
 
 -- ── the whole ──
-module _ (q : Question) (name s : List ℕ) (j : Judged) (x : j ≡ judged_of s) where
-  pub open_long : j ≡ judged.TooLong → Refused 2 0 place.Absent ≡ opened_of q name s
+module _ (q : Question) (name s : List ℕ) where
+  pub open_err : (u : Unread) → judged_of s ≡ Err u → opened_of q name s ≡ Err (refusal_of (Err u))
   unfolding opened_of opened_by
-  open_long h = rw (sym x ∙ h)
+  open_err u h = rw h
 
-  pub open_unfit : (p : ℕ) → j ≡ judged.Unfit p → Refused 3 0 (place.At p) ≡ opened_of q name s
-  unfolding opened_of opened_by
-  open_unfit p h = rw (sym x ∙ h)
-
-  pub open_failed : (n : ℕ) → j ≡ judged.Failed n → Refused 4 n place.Absent ≡ opened_of q name s
-  unfolding opened_of opened_by
-  open_failed n h = rw (sym x ∙ h)
-
-  pub open_other : j ≡ judged.OtherType → Refused 5 0 place.Absent ≡ opened_of q name s
-  unfolding opened_of opened_by
-  open_other h = rw (sym x ∙ h)
-
-  module _ (p : Parts) (h : j ≡ judged.Basic p) where
-    pub open_basic : (r : Opened) → r ≡ parts_opened q name s p → r ≡ opened_of q name s
+  module _ (p : Parts) (h : judged_of s ≡ Ok p) where
+    pub open_basic : opened_of q name s ≡ parts_opened q name s p
     unfolding opened_of opened_by
-    open_basic r i = rw (sym x ∙ h) i
+    open_basic = rw h
 
     abbrev Inside : Span → Type 0
     Inside at = at.start + at.len ≤ length s
 
-    module _ (known : (i : ℕ) → Fits w8 (get_or s i 0)) where
+    module _ (known : Known s) where
       both_inside : Inside p.responder × Inside p.extensions
       both_inside =
-          let (b, r, e) = judged_basic s p (sym x ∙ h) in
-          on b r e
-        where
-          o : Octets s
-          o = octets_from s (λ i lt. (known i).fits)
-
-          on : (b : Basic) → reading s ≡ reads (basic b) → p ≡ parts_from (length s - length (basic_body.enc b)) b → Inside p.responder × Inside p.extensions
-          on b r e = rw e ((responder_stands s b o r).inside, (extensions_stand s b o r).inside)
+          let (b, r, e) = judged_basic s p h in
+          let o = known_octets s known in
+          rw e ((responder_stands s b o r).inside, (extensions_stand s b o r).inside)
 
       pub responder_inside : p.responder.start + p.responder.len ≤ length s
       responder_inside = both_inside.0
 
       pub extensions_inside : p.extensions.start + p.extensions.len ≤ length s
       extensions_inside = both_inside.1
+
+pub ruleset mark_cases = (mark_other, mark_delegate)
+
+pub ruleset refusal_cases = (verdict_other, signer_other, marks_missing, extension_strange, response_clear)
+
+pub ruleset parts_cases = (parts_refused, parts_clear)
+
+pub ruleset open_cases = (open_err, open_basic, responder_inside, extensions_inside)

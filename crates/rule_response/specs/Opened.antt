@@ -1,21 +1,23 @@
 -- The response as a whole, as the code judges it: refusals 2 to 9, else where its entries are.
--- lacks, refusal_in; cut_at, number_opened, parts_opened, opened_by, opened_of. That 6 to 9 are what the table
+-- Opened; lacks, refusal_in; cut_at, number_opened, parts_opened, opened_by, opened_of. That 6 to 9 are what the table
 -- says is in OpenedLaws; the rest is in CheckLaws of crate rule_check.
 -- Assumes nothing.
-use Rattle.std.specs.Prelude.{ℕ, Bool, false, cond, List, eqb, take, drop}
-use Rattle.answer.specs.declared.Place.TheVariants as place
+use Rattle.std.specs.Prelude.{ℕ, Bool, false, cond, List, eqb, take, drop, None, Result, Ok, Err}
+use Rattle.element.specs.declared.Span.{Span}
 use Rattle.read_critical.specs.Strange.{strange_of}
 use Rattle.read_response.specs.Parts.{judged_of}
-use Rattle.read_response.specs.declared.Span.{Span}
+use Rattle.read_response.specs.Refusals.{refusal, refusal_of}
 use Rattle.read_response.specs.declared.Parts.{Parts}
-use Rattle.read_response.specs.declared.Judged.{Judged}
-use Rattle.read_response.specs.declared.Judged.TheVariants as judged
+use Rattle.read_response.specs.declared.Refusal.{Refusal}
+use Rattle.read_response.specs.Judged.{Judged}
 use Rattle.rules.specs.declared.Question.{Question}
 use Rattle.rules.specs.Order.{lacks_mark}
 use Rattle.rule_tests.specs.StrangePlace.{is_place, response_known}
-use Rattle.rule_response.specs.declared.Opened.{Opened}
-use Rattle.rule_response.specs.declared.Opened.TheVariants.{Refused, Clear}
 use Rattle.rule_response.specs.SignerIn.{signs_in}
+
+-- where the entries are, without the header around them, or why the response is refused
+abbrev pub Opened : Type 0
+Opened = Result Span Refusal
 
 -- role is 2 and one of the three marks is missing
 unfoldable pub lacks : ℕ → ℕ → Bool
@@ -37,7 +39,7 @@ cut_at s at = take at.len (drop at.start s)
 
 -- by the number
 unfoldable pub number_opened : Span → ℕ → Opened
-number_opened at n = cond (eqb n 0) (Clear at.start at.len) (Refused n 0 place.Absent)
+number_opened at n = cond (eqb n 0) (Ok at) (Err (refusal n 0 None))
 
 -- a basic response with these parts
 unfoldable pub parts_opened : Question → List ℕ → List ℕ → Parts → Opened
@@ -45,11 +47,8 @@ parts_opened q name s p = number_opened p.entries (refusal_in q name (cut_at s p
 
 -- by what the response is
 unfoldable pub opened_by : Question → List ℕ → List ℕ → Judged → Opened
-opened_by q name s judged.TooLong = Refused 2 0 place.Absent
-opened_by q name s (judged.Unfit p) = Refused 3 0 (place.At p)
-opened_by q name s (judged.Failed n) = Refused 4 n place.Absent
-opened_by q name s judged.OtherType = Refused 5 0 place.Absent
-opened_by q name s (judged.Basic p) = parts_opened q name s p
+opened_by q name s (Ok p) = parts_opened q name s p
+opened_by q name s (Err u) = Err (refusal_of (Err u))
 
 unfoldable pub opened_of : Question → List ℕ → List ℕ → Opened
 opened_of q name s = opened_by q name s (judged_of s)

@@ -3,12 +3,13 @@
 -- judged_basic; opened_inside; part_short, refusal_is. The definitions are in Opened, and in Signer and Order of crate
 -- rules.
 -- Assumes nothing.
-use Rattle.std.specs.Prelude.{ℕ, ◌+◌, ◌-◌, ◌^◌, ◌≤◌, ◌<◌, ◌≡◌, Bool, true, false, cond, ◌&&◌, List, eqb, ltb, drop}
+use Rattle.std.specs.Prelude.{ℕ, ◌+◌, ◌-◌, ◌^◌, ◌≤◌, ◌<◌, ◌≡◌, Bool, true, false, cond, ◌&&◌, List, eqb, ltb, drop, None, Ok, Err}
 use native.Mathlib.Omega.{arith}
 use Rattle.std.proofs.Math.Path.{refl, ap}
 use Rattle.std.proofs.Common.{◌∙◌, length-drop, length-take-le, ltb-false}
 use Rattle.std.proofs.Math.ListN.{length}
 use Rattle.octets.specs.Octets.{Octets}
+use Rattle.element.specs.declared.Span.{Span}
 use Rattle.layout.specs.Reading.{Basic, failed, basic}
 use Rattle.layout.proofs.LimitsLaws.{responder_limits}
 use Rattle.layout.proofs.PartLimitsLaws.{option_limits, extensions_limits}
@@ -23,23 +24,21 @@ use Rattle.read_critical.specs.Strange.{strange_of}
 use Rattle.read_response.specs.Parts.{parts_from, judged_as, judged_of}
 use Rattle.read_response.proofs.PartsLaws.{responder_stands, entries_stand, extensions_stand}
 use Rattle.read_response.specs.Stands.{Stands}
-use Rattle.read_response.specs.declared.Span.{Span}
 use Rattle.read_response.specs.declared.Parts.{Parts}
-use Rattle.read_response.specs.declared.Judged.{Judged}
-use Rattle.read_response.specs.declared.Judged.TheVariants as judged
+use Rattle.read_response.specs.declared.Unread.TheVariants as unread
+use Rattle.read_response.specs.Judged.{Judged}
+use Rattle.read_response.specs.Refusals.{refusal}
 use Rattle.rules.specs.declared.Question.{Question}
 use Rattle.rules.specs.Signer.{is_signer, in_response, strange_in}
 use Rattle.rules.specs.Order.{lacks_mark}
 use Rattle.rule_tests.specs.StrangePlace.{is_place, response_known}
 use Rattle.rule_tests.specs.StrangeInLaws.{strange_response}
-use Rattle.answer.specs.declared.Place.TheVariants as place
-use Rattle.rule_response.specs.declared.Opened.TheVariants.{Refused, Clear}
 use Rattle.rule_response.specs.SignerIn.{signs_in}
 use Rattle.rule_response.specs.SignerInLaws.{signs_form}
 use Rattle.rule_response.specs.Opened.{lacks, refusal_in, cut_at, number_opened, parts_opened, opened_by, opened_of}
 
 -- ── a basic response is judged by its parts ──
-judged_from_lem : (n : ℕ) (o : Outcome) (p : Parts) → judged_as n o ≡ judged.Basic p
+judged_from_lem : (n : ℕ) (o : Outcome) (p : Parts) → judged_as n o ≡ Ok p
     → (b : Basic) × (o ≡ reads (basic b)) × (p ≡ parts_from (n - length (basic_body.enc b)) b)
 unfolding judged_as
 judged_from_lem n (reads (basic b)) p e = (b, refl, cc)
@@ -47,52 +46,42 @@ judged_from_lem n (reads (failed c)) p e = never (cc)
 judged_from_lem n other_type p e = never (cc)
 judged_from_lem n (unfit k) p e = never (cc)
 
-pub judged_basic : (s : List ℕ) (p : Parts) → judged_of s ≡ judged.Basic p
+pub judged_basic : (s : List ℕ) (p : Parts) → judged_of s ≡ Ok p
     → (b : Basic) × (reading s ≡ reads (basic b)) × (p ≡ parts_from (length s - length (basic_body.enc b)) b)
 unfolding judged_of
 judged_basic s p e = go (ltb 16384 (length s)) e
   where
-    go : (t : Bool) → cond t judged.TooLong (judged_as (length s) (reading s)) ≡ judged.Basic p
+    go : (t : Bool) → cond t (Err unread.TooLong) (judged_as (length s) (reading s)) ≡ Ok p
         → (b : Basic) × (reading s ≡ reads (basic b)) × (p ≡ parts_from (length s - length (basic_body.enc b)) b)
     go true e = never (cc)
     go false e = judged_from_lem (length s) (reading s) p e
 
 -- ── where the entries are ──
-number_clear : (at : Span) (n b l : ℕ) → number_opened at n ≡ Clear b l → (at.start ≡ b) × (at.len ≡ l)
+number_clear : (at : Span) (n : ℕ) (v : Span) → number_opened at n ≡ Ok v → at ≡ v
 unfolding number_opened
-number_clear at n b l e = go (eqb n 0) e
+number_clear at n v e = go (eqb n 0) e
   where
-    go : (t : Bool) → cond t (Clear at.start at.len) (Refused n 0 place.Absent) ≡ Clear b l → (at.start ≡ b) × (at.len ≡ l)
-    go true e = (cc, cc)
+    go : (t : Bool) → cond t (Ok at) (Err (refusal n 0 None)) ≡ Ok v → at ≡ v
+    go true e = cc
     go false e = never (cc)
 
 module _ (q : Question) (name s : List ℕ) where
-  parts_clear : (p : Parts) (b l : ℕ) → parts_opened q name s p ≡ Clear b l → (p.entries.start ≡ b) × (p.entries.len ≡ l)
+  parts_clear : (p : Parts) (v : Span) → parts_opened q name s p ≡ Ok v → p.entries ≡ v
   unfolding parts_opened
-  parts_clear p b l e = number_clear p.entries _ b l e
+  parts_clear p v e = number_clear p.entries _ v e
 
-  by_clear : (j : Judged) (b l : ℕ) → opened_by q name s j ≡ Clear b l → (p : Parts) × (j ≡ judged.Basic p) × (p.entries.start ≡ b) × (p.entries.len ≡ l)
+  by_clear : (j : Judged) (v : Span) → opened_by q name s j ≡ Ok v → (p : Parts) × (j ≡ Ok p) × (p.entries ≡ v)
   unfolding opened_by
-  by_clear judged.TooLong b l e = never (cc)
-  by_clear (judged.Unfit p) b l e = never (cc)
-  by_clear (judged.Failed n) b l e = never (cc)
-  by_clear judged.OtherType b l e = never (cc)
-  by_clear (judged.Basic p) b l e = let i = parts_clear p b l e in (p, refl, i.0, i.1)
+  by_clear (Ok p) v e = (p, refl, parts_clear p v e)
+  by_clear (Err u) v e = never (cc)
 
   -- the entries lie inside the response
-  pub opened_inside : Octets s → (b l : ℕ) → opened_of q name s ≡ Clear b l → b + l ≤ length s
+  pub opened_inside : Octets s → (v : Span) → opened_of q name s ≡ Ok v → v.start + v.len ≤ length s
   unfolding opened_of
-  opened_inside o b l e =
-      let (p, ej, i, k) = by_clear (judged_of s) b l e in
+  opened_inside o v e =
+      let (p, ej, i) = by_clear (judged_of s) v e in
       let (x, er, ep) = judged_basic s p ej in
-      on p x er ep i k
-    where
-      on : (p : Parts) (x : Basic) → reading s ≡ reads (basic x) → p ≡ parts_from (length s - length (basic_body.enc x)) x → p.entries.start ≡ b → p.entries.len ≡ l → b + l ≤ length s
-      on p x er ep i k =
-          let v = (entries_stand s x o er).inside in
-          let f = ap (λ (y : Parts). y.entries.start) ep in
-          let g = ap (λ (y : Parts). y.entries.len) ep in
-          omega arith
+      rw (← i, ep) (entries_stand s x o er).inside
 
 -- ── 6 to 9 ──
 lacks_and : (role marks : ℕ) → lacks role marks ≡ eqb role 2 && lacks_mark marks

@@ -2,12 +2,11 @@
 -- key_in, signer_at, signs_in. That it says what is_signer of crate rules says of the
 -- reading is in SignerInLaws.
 -- Assumes nothing.
-use Rattle.std.specs.Prelude.{ℕ, Bool, false, cond, List, ltb, length, take, drop}
+use Rattle.std.specs.Prelude.{ℕ, Bool, false, cond, List, ltb, length, take, drop, Ok, Err}
 use Rattle.octets.specs.Same.{same_of}
 use Rattle.element.specs.Header.{header_of}
+use Rattle.element.specs.Places.{Spot}
 use Rattle.read_content.specs.Spots.{expected}
-use Rattle.read_content.specs.declared.Spot.{Spot}
-use Rattle.read_content.specs.declared.Spot.TheVariants as spot
 
 -- a key's hash stands after A2 16 04 14
 unfoldable pub key_in : List ℕ → List ℕ → Bool
@@ -15,8 +14,8 @@ key_in key s = cond (ltb (length s) 4) false (same_of (drop 4 s) key)
 
 -- a Name is what an A1 holds
 unfoldable pub signer_at : List ℕ → List ℕ → List ℕ → Spot → Bool
-signer_at key name s (spot.At b l) = same_of (take l (drop b s)) name
-signer_at key name s (spot.Wrong p) = key_in key s
+signer_at key name s (Ok v) = same_of (take v.len (drop v.start s)) name
+signer_at key name s (Err p) = key_in key s
 
 -- responder ids compare by key hash, or by the whole Name octet by octet
 unfoldable pub signs_in : List ℕ → List ℕ → List ℕ → Bool

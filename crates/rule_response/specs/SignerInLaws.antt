@@ -1,7 +1,7 @@
 -- The octets of a responder id tell the signer as its reading does.
 -- signs_form. The definitions are in SignerIn, and in Signer of crate rules.
 -- Assumes nothing.
-use Rattle.std.specs.Prelude.{ℕ, ◌^◌, ◌<◌, ◌≡◌, refl, Bool, length, drop}
+use Rattle.std.specs.Prelude.{ℕ, ◌^◌, ◌<◌, ◌≡◌, refl, Bool, length, drop, Ok, Err}
 use Rattle.std.proofs.Common.{arith, ◌∙◌}
 use Rattle.std.proofs.Math.Path.{ap}
 use Rattle.std.proofs.Math.Bool.{false, cond}
@@ -13,7 +13,7 @@ use Rattle.octets.specs.Same.{same_of}
 use Rattle.element.specs.Form.{head_size, form_of}
 use Rattle.element.specs.Length.{length_form}
 use Rattle.element.specs.Header.{header_of}
-use Rattle.element.specs.declared.Header.TheVariants.{Found}
+use Rattle.element.specs.Places.{misfit, span, header}
 use Rattle.codec.proofs.PartLaws.{form_found, form_content, small_content}
 use Rattle.codec.specs.Tree.{Tree, tree_enc}
 use Rattle.layout.specs.Reading.{Responder, by_name, by_key}
@@ -22,15 +22,14 @@ use Rattle.layout.proofs.Format.{name_id, key_id, responder_id}
 use Rattle.layout.specs.Limits.{ResponderOk}
 use Rattle.layout.proofs.LimitsLaws.{responder_limits}
 use Rattle.read_content.specs.Spots.{expected}
-use Rattle.read_content.specs.declared.Spot.TheVariants as spot
 use Rattle.rules.specs.Signer.{is_signer}
 use Rattle.rule_response.specs.SignerIn.{key_in, signer_at, signs_in}
 
-found_a1 : (h n : ℕ) → expected 0xa1 (Found 0xa1 h n) ≡ spot.At h n
+found_a1 : (h n : ℕ) → expected 0xa1 (Ok (header 0xa1 h n)) ≡ Ok (span h n)
 unfolding expected
 found_a1 h n = refl
 
-found_a2 : (h n : ℕ) → expected 0xa1 (Found 0xa2 h n) ≡ spot.Wrong 0
+found_a2 : (h n : ℕ) → expected 0xa1 (Ok (header 0xa2 h n)) ≡ Err (misfit 0)
 unfolding expected
 found_a2 h n = refl
 
@@ -38,7 +37,7 @@ module _ (key name : List ℕ) where
   name_form : (c : List ℕ) → length (form_of 0xa1 c) < 2 ^ 64 → signs_in key name (form_of 0xa1 c) ≡ same_of c name
   unfolding signs_in signer_at
   name_form c z =
-      let f : header_of (form_of 0xa1 c) ≡ Found 0xa1 (head_size (length c)) (length c) = rw append-nil at (form_found 0xa1 c [] tag_a1 (small_content 0xa1 c z)) in
+      let f : header_of (form_of 0xa1 c) ≡ Ok (header 0xa1 (head_size (length c)) (length c)) = rw append-nil at (form_found 0xa1 c [] tag_a1 (small_content 0xa1 c z)) in
       let g : take (length c) (drop (head_size (length c)) (form_of 0xa1 c)) ≡ c = rw append-nil at (form_content 0xa1 c []) in
       rw (f, found_a1 (head_size (length c)) (length c), g)
 
@@ -65,7 +64,7 @@ module _ (key name : List ℕ) where
   unfolding signs_in signer_at
   key_form k e z =
       let c = form_of 0x04 k in
-      let f : header_of (form_of 0xa2 c) ≡ Found 0xa2 (head_size (length c)) (length c) = rw append-nil at (form_found 0xa2 c [] tag_a2 (small_content 0xa2 c z)) in
+      let f : header_of (form_of 0xa2 c) ≡ Ok (header 0xa2 (head_size (length c)) (length c)) = rw append-nil at (form_found 0xa2 c [] tag_a2 (small_content 0xa2 c z)) in
       rw (f, found_a2 (head_size (length c)) (length c)) (ap (key_in key) (key_octets k e) ∙ key_last k)
 
   at_name : (n : Tree) → length (responder_id.enc (by_name n)) < 2 ^ 64 → signs_in key name (responder_id.enc (by_name n)) ≡ is_signer key name (by_name n)

@@ -1,6 +1,7 @@
 -- The search with the card's fields lent is the search for the card.
--- field_inside, field_taken, field_short, card_search; twenty_short.
+-- field_inside, field_taken, field_short, card_search; twenty_short; lent_cases.
 -- The definitions are in specs/Search. Assumes nothing.
+use Rattle.std.specs.Prelude.{Err, Ok}
 use Prim.Native.Nat.{ℕ, zero, suc, ◌+◌, ◌≤◌, min}
 use native.Mathlib.Nat.{min-le_right}
 use native.Mathlib.Omega.{arith}
@@ -10,10 +11,7 @@ use mathlib.Core.List.{List}
 use lib.ListN.{length, take, drop}
 use lib.Seq.{length-take-le, take-length}
 use Rattle.element.specs.Header.{header_of}
-use Rattle.element.specs.declared.Header.{Header}
-use Rattle.element.specs.declared.Header.TheVariants as header
-use Rattle.read_content.specs.declared.Spot.{Spot}
-use Rattle.read_content.specs.declared.Spot.TheVariants.{At, Wrong}
+use Rattle.element.specs.Places.{HeaderRead, Spot}
 use Rattle.read_entry.specs.Ids.{cert_spot}
 use Rattle.answer.specs.declared.Card.{Card}
 use Rattle.answer.specs.Card.{serial_in}
@@ -24,10 +22,10 @@ use Rattle.rule_search.specs.declared.Found.{Found}
 use Rattle.rule_search.specs.declared.Found.TheVariants.{None}
 
 -- by what follows a header
-on_same : (so : Found) (y : Header) (f g : ℕ → Found) → ((n : ℕ) → f n ≡ g n) → on_header so y f ≡ on_header so y g
+on_same : (so : Found) (y : HeaderRead) (f g : ℕ → Found) → ((n : ℕ) → f n ≡ g n) → on_header so y f ≡ on_header so y g
 unfolding on_header
-on_same so (header.Refused p) f g e = refl
-on_same so (header.Found t h n) f g e = e (h + n)
+on_same so (Err p) f g e = refl
+on_same so (Ok h) f g e = e (h.start + h.len)
 
 module _ (card : Card) (x : List ℕ) (e : x ≡ serial_in card) where
   abbrev lent : Card
@@ -38,8 +36,8 @@ module _ (card : Card) (x : List ℕ) (e : x ≡ serial_in card) where
   same_here t = go (cert_spot t)
     where
       go : (y : Spot) → is_at lent t y ≡ is_at card t y
-      go (At b l) = ap (λ (z : List ℕ). is_card_octets sha1_heads card.name card.key z (take l (drop b t))) (take-length x ∙ e)
-      go (Wrong p) = refl
+      go (Ok v) = ap (λ (z : List ℕ). is_card_octets sha1_heads card.name card.key z (take v.len (drop v.start t))) (take-length x ∙ e)
+      go (Err p) = refl
 
   same_from : (d : ℕ) (t : List ℕ) (at i : ℕ) (so : Found) → search_from lent d t at i so ≡ search_from card d t at i so
   unfolding search_from
@@ -68,3 +66,5 @@ module _ (card : Card) (n : ℕ) (l : length card.serial ≡ 20) (q : n ≡ min 
 
 pub twenty_short : (h : List ℕ) → length h ≡ 20 → length h ≤ 127
 twenty_short h e = omega arith
+
+pub ruleset lent_cases = (twenty_short, field_inside, field_taken, field_short, card_search)

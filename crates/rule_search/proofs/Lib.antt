@@ -1,6 +1,5 @@
 pub mod FoundLaws
 pub mod SearchLaws
-pub mod FoundCases
 pub mod HereCases
 pub mod LentCases
 pub mod SearchTurns

@@ -3,7 +3,7 @@
 -- What that says of the entries for the card is in FoundLaws. The definitions are in Search.
 -- Assumes nothing.
 use Prim.Native.Nat.{ℕ, zero, suc, ◌+◌, ◌-◌, ◌≤◌}
-use Rattle.std.proofs.Common.{arith, sym, ap, ◌∙◌}
+use Rattle.std.proofs.Common.{arith, sym, ap, ◌∙◌, Ok}
 use Rattle.std.specs.Prelude.{◌≡◌, refl, true, take, drop}
 use mathlib.Core.List.{List, [], ◌∷◌}
 use Rattle.std.proofs.Math.ListN.{length, length-drop}
@@ -24,7 +24,6 @@ use Rattle.layout.proofs.Format.{cert_body, cert_id, single_body, single_respons
 use Rattle.read_entry.specs.Ids.{cert_spot}
 use Rattle.read_ending.specs.PartLaws.{tagged_read, field_read}
 use Rattle.read_entry.specs.EntryLaws.{entry_header, entry_cert}
-use Rattle.read_content.specs.declared.Spot.TheVariants.{At}
 use Rattle.answer.specs.Card.{serial_in}
 use Rattle.answer.specs.declared.Card.{Card}
 use Rattle.rule_matching.specs.Match.{is_for}
@@ -32,6 +31,7 @@ use Rattle.rule_matching.proofs.MatchLaws.{cert_octets}
 use Rattle.rule_search.specs.Search.{is_at, is_here, noted, on_header, search_from, search_of, found_from, found_of}
 use Rattle.rule_search.specs.declared.Found.{Found}
 use Rattle.rule_search.specs.declared.Found.TheVariants.{None}
+use Rattle.element.specs.Places.{span}
 
 -- where nothing is left, what was found so far
 pub none_left : (card : Card) (d at i : ℕ) (so : Found) → search_from card d [] at i so ≡ so
@@ -41,7 +41,7 @@ none_left card (suc d) at i so = rw header_empty
 
 -- the octets where the CertID of an entry is read as that CertID
 cert_reads : (t : List ℕ) (e : Entry) (n : ℕ) → single_response.dec t ≡ got e n → Octets t
-    → (b : ℕ) × (l : ℕ) × (cert_spot t ≡ At b l) × (cert_body.dec (take l (drop b t)) ≡ read e.cert)
+    → (b : ℕ) × (l : ℕ) × (cert_spot t ≡ Ok (span b l)) × (cert_body.dec (take l (drop b t)) ≡ read e.cert)
 unfolding single_body mapped_dec cert_id
 cert_reads t e n q o =
     let (h, m, _, _, g) = entry_header t e n q in

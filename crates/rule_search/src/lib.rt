@@ -25,9 +25,9 @@ pub enum Found {
     },
 }
 
-// What the search sees at a place: no element, or the size of one and whether it is an entry for the card.
-#[derive(Clone, Copy)]
-pub enum Seen {
-    End,
-    Next { size: usize, here: bool },
+// What the search sees at a place: the size of an element, and whether it is an entry for the card.
+#[derive(Clone, Copy, Debug, PartialEq, Eq)]
+pub struct Seen {
+    pub size: usize,
+    pub here: bool,
 }

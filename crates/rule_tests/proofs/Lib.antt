@@ -1,2 +1,1 @@
 pub mod PlaceCases
-pub mod RangeCases

@@ -2,9 +2,7 @@
 -- response_known, entry_known, is_place. That this is strange_in of crate rules, of the reading, is in
 -- StrangeInLaws.
 -- Assumes nothing.
-use Rattle.std.specs.Prelude.{ℕ, Bool, true, false, List, [], ◌∷◌}
-use Rattle.read_critical.specs.declared.Strange.{Strange}
-use Rattle.read_critical.specs.declared.Strange.TheVariants.{None, At}
+use Rattle.std.specs.Prelude.{ℕ, Bool, true, false, List, [], ◌∷◌, None, Some, Option}
 use Rattle.rules.specs.Signer.{ocsp_oid}
 
 -- understood in the response: nonce and extended revoke
@@ -16,6 +14,6 @@ abbrev pub entry_known : List (List ℕ)
 entry_known = ocsp_oid 6 ∷ ocsp_oid 6 ∷ []
 
 -- some extension is critical and not understood
-unfoldable pub is_place : Strange → Bool
+unfoldable pub is_place : Option ℕ → Bool
 is_place None = false
-is_place (At p) = true
+is_place (Some p) = true

@@ -3,21 +3,17 @@ ghost use Rattle.std.specs.Prelude.{◌≡◌, [], ◌∷◌};
 ghost use Rattle.read_critical.specs.Strange.{strange_of};
 ghost use Rattle.rule_tests.specs.StrangePlace.{is_place, response_known, entry_known};
 
-use read_critical::Strange;
-
 // Whether a critical extension has another OID than these two.
+#[tactic(auto, unfolding(crate::specs::StrangePlace::is_place))]
 fn strange_among(part: &[u8], a: &[u8], b: &[u8]) -> bool
     ensures { result ≡ is_place (strange_of (a.now ∷ b.now ∷ []) part.now) }
 {
-    let found = read_critical::strange_place(part, a, b);
-    match found {
-        Strange::None => false,
-        Strange::At(_) => true,
-    }
+    read_critical::strange_place(part, a, b).is_some()
 }
 
 // Whether a critical extension of the response is not understood: nonce and extended revoke are. Where
 // there are no extensions at all, nothing more is looked at.
+#[tactic(auto, using(crate::proofs::PlaceCases::nothing_there))]
 pub fn strange_in_response(part: &[u8]) -> bool
     ensures { result ≡ is_place (strange_of response_known part.now) }
 {
@@ -31,6 +27,7 @@ pub fn strange_in_response(part: &[u8]) -> bool
 
 // Whether a critical extension of an entry is not understood: archive cutoff is; where
 // there are none at all, likewise.
+#[tactic(auto, using(crate::proofs::PlaceCases::nothing_there))]
 pub fn strange_in_entry(part: &[u8]) -> bool
     ensures { result ≡ is_place (strange_of entry_known part.now) }
 {

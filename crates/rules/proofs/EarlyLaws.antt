@@ -3,7 +3,7 @@
 -- two_exactly, three_exactly, four_exactly, five_exactly. For any question: place_exactly, which answers have a place.
 -- The answer where a row is the first that applies is in RowLaws; the definitions are in Order and Ruling.
 -- Assumes nothing.
-use Rattle.std.specs.Prelude.{ℕ, ◌≤◌, ◌<◌, ◌↔◌, ◌≡◌, Bool, List, eqb, length}
+use Rattle.std.specs.Prelude.{ℕ, ◌≤◌, ◌<◌, ◌↔◌, ◌≡◌, Bool, List, eqb, length, Some}
 use Rattle.std.proofs.Common.{arith, ⊎_elim, sym, ◌∙◌}
 use Rattle.std.proofs.Math.Path.{refl, ap}
 use Rattle.std.proofs.Math.Bool.{true, false, not}
@@ -13,7 +13,6 @@ use Rattle.layout.specs.Reading.{failed}
 use Rattle.layout.specs.Read.{reads, other_type, unfit}
 use Rattle.layout.proofs.Read.{reading}
 use Rattle.answer.specs.Verdict.{refused_at, refused}
-use Rattle.answer.specs.declared.Place.TheVariants as place
 use Rattle.answer.specs.declared.Verdict.TheVariants.{Refused}
 use Rattle.answer.specs.declared.Answer.{Answer}
 use Rattle.rules.specs.declared.Question.{Question}
@@ -65,7 +64,7 @@ module _ (q : Question) (name s : List ℕ) where
     two_exactly = (λ e. size_over (rows_of 2 0 (ap (λ (a : Answer). a.verdict) e)).0, λ h. row_2 q name s range (lt-ltb 16384 (length s) h))
 
     -- 3, with a place: it has at most that many and does not fit there
-    pub three_exactly : (p : ℕ) → answer_of q name s ≡ refused_at 3 0 (place.At p) ↔ (length s ≤ 16384) × (reading s ≡ unfit p)
+    pub three_exactly : (p : ℕ) → answer_of q name s ≡ refused_at 3 0 (Some p) ↔ (length s ≤ 16384) × (reading s ≡ unfit p)
     three_exactly p = (
       λ e.
           let (t, f) = rows_of 3 0 (ap (λ (a : Answer). a.verdict) e) in
@@ -110,7 +109,7 @@ module _ (q : Question) (name s : List ℕ) where
       go false e = impossible (sym e)
 
   -- a refusal with a place is 3: no earlier row applies, and the response does not fit there
-  refusal_placed : (p n status : ℕ) → IsRefusal s (answer_of q name s) n status → (answer_of q name s).place ≡ place.At p
+  refusal_placed : (p n status : ℕ) → IsRefusal s (answer_of q name s) n status → (answer_of q name s).place ≡ Some p
       → (in_range q name ≡ true) × (length s ≤ 16384) × (reading s ≡ unfit p)
   refusal_placed p n status r e = go (eqb n 3) refl
     where
@@ -128,7 +127,7 @@ module _ (q : Question) (name s : List ℕ) where
           absurd (omega arith)
 
   -- an answer has a place exactly if the question is in range, the response has at most 16,384 octets, and does not fit there
-  pub place_exactly : (p : ℕ) → (answer_of q name s).place ≡ place.At p ↔ (in_range q name ≡ true) × (length s ≤ 16384) × (reading s ≡ unfit p)
+  pub place_exactly : (p : ℕ) → (answer_of q name s).place ≡ Some p ↔ (in_range q name ≡ true) × (length s ≤ 16384) × (reading s ≡ unfit p)
   place_exactly p = (
     λ e.
         ⊎_elim

@@ -2,14 +2,13 @@
 -- checked; card, question_at; failure, desk_case; unfit_status, unfit_placed; response, answered, m11_passes, m11_late, m11_tolerated; other_issuer, too_tolerant.
 -- The laws stand here, and what is made of them; the definitions in specs/Examples.
 -- Assumes nothing.
-use Rattle.std.specs.Prelude.{ℕ, ◌≡◌, refl, List, [], replicate}
+use Rattle.std.specs.Prelude.{ℕ, ◌≡◌, refl, List, [], replicate, Some}
 use Rattle.layout.specs.Reading.{failed, basic}
 use Rattle.layout.specs.Read.{reads, unfit}
 use Rattle.layout.proofs.Read.{reading}
 use Rattle.layout.proofs.Opened.{opened}
 use Rattle.answer.specs.Verdict.{saying, refused_at, refused}
 use Rattle.answer.specs.declared.Verdict.TheVariants.{Good}
-use Rattle.answer.specs.declared.Place.TheVariants as place
 use Rattle.rules.specs.Ruling.{answer_of}
 use Rattle.rules.proofs.RefusalLaws.{out_of_range}
 use Rattle.rules.specs.Examples.{answered, card, checked, failure, question_at, response, unfit_status}
@@ -27,7 +26,7 @@ pub unfit_read : reading unfit_status ≡ unfit 2
 unfolding opened
 unfit_read = refl
 
-pub unfit_placed : answer_of (question_at 1114909200 0) [] unfit_status ≡ refused_at 3 0 (place.At 2)
+pub unfit_placed : answer_of (question_at 1114909200 0) [] unfit_status ≡ refused_at 3 0 (Some 2)
 unfolding checked
 unfit_placed = rw unfit_read
 

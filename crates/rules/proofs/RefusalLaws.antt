@@ -2,7 +2,7 @@
 -- then that number with an empty card, and it is never good, revoked or unknown.
 -- refusal_number, refusal_whole, refusal_placeless, refusal_exactly, refusal_not_revoked, answer_either; refusal_status, out_of_range.
 -- The definitions are in Ruling, Rows and Accepted. Assumes nothing.
-use Rattle.std.specs.Prelude.{ℕ, ◌<◌, ◌⊎◌, ◌↔◌, ◌≡◌, refl, Bool, true, false, List, eqb}
+use Rattle.std.specs.Prelude.{ℕ, ◌<◌, ◌⊎◌, ◌↔◌, ◌≡◌, refl, Bool, true, false, List, eqb, Some, Option}
 use Rattle.std.proofs.Common.{arith, inl, inr, sym, ap, ◌∙◌, eqb-true, eq-eqb, ne_eqb}
 use Rattle.std.proofs.lemmas.Bool.{eqb-false}
 use Rattle.octets.specs.Octets.{Octets}
@@ -13,9 +13,7 @@ use Rattle.layout.proofs.Read.{reading}
 use Rattle.layout.specs.Limits.{FailureOk}
 use Rattle.layout.proofs.Theorem.{sound}
 use Rattle.answer.specs.Verdict.{without_place, refused_at, refused}
-use Rattle.answer.specs.declared.Reason.{Reason}
 use Rattle.answer.specs.declared.Verdict.TheVariants.{Good, Revoked, Unknown, Refused}
-use Rattle.answer.specs.declared.Place.TheVariants as place
 use Rattle.answer.specs.declared.Answer.{Answer}
 use Rattle.rules.specs.declared.Question.{Question}
 use Rattle.rules.specs.Question.{in_range}
@@ -35,14 +33,14 @@ failed_status (reads (failed n)) e = refl
 failed_status (reads (basic b)) e = impossible e
 
 -- the place of a response that does not fit
-unfit_place : (o : Outcome) → is_unfit o ≡ true → (p : ℕ) × (o ≡ unfit p) × (misfit_in o ≡ place.At p)
+unfit_place : (o : Outcome) → is_unfit o ≡ true → (p : ℕ) × (o ≡ unfit p) × (misfit_in o ≡ Some p)
 unfit_place (unfit p) e = (p, refl, refl)
 unfit_place other_type e = impossible e
 unfit_place (reads r) e = impossible e
 
 module _ (q : Question) (name s : List ℕ) where
   -- where row 3 applies the response does not fit
-  row_three : (n : ℕ) → n ≡ 3 → test_of n (tests (case_of q name s)) ≡ true → (p : ℕ) × (reading s ≡ unfit p) × (misfit_in (reading s) ≡ place.At p)
+  row_three : (n : ℕ) → n ≡ 3 → test_of n (tests (case_of q name s)) ≡ true → (p : ℕ) × (reading s ≡ unfit p) × (misfit_in (reading s) ≡ Some p)
   unfolding test_of tests
   row_three n i e = unfit_place (reading s) (rw i at e)
 
@@ -115,7 +113,7 @@ module _ (q : Question) (name s : List ℕ) where
   pub refusal_not_revoked : (n : ℕ) → (n ≡ 0 → ⊥) → first_of (tests (case_of q name s)) ≡ n
       → ((status : ℕ) × IsRefusal s (answer_of q name s) n status)
       × ((this next : ℕ) → (answer_of q name s).verdict ≡ Good this next → ⊥)
-      × ((this next at : ℕ) (reason : Reason) → (answer_of q name s).verdict ≡ Revoked this next at reason → ⊥)
+      × ((this next at : ℕ) (reason : Option ℕ) → (answer_of q name s).verdict ≡ Revoked this next at reason → ⊥)
       × ((this next : ℕ) → (answer_of q name s).verdict ≡ Unknown this next → ⊥)
   refusal_not_revoked n z f =
       let r = refusal_is n z f in

@@ -2,13 +2,12 @@
 -- reads as; and what is answered where none applies.
 -- row_2 to row_16, row_none. Row 1 is out-of-range in RefusalLaws. The definitions are in Order and Ruling.
 -- Assumes nothing.
-use Rattle.std.specs.Prelude.{ℕ, ◌≡◌, true, false, ◌&&◌, List, [], ◌∷◌, eqb, ltb, length}
+use Rattle.std.specs.Prelude.{ℕ, ◌≡◌, true, false, ◌&&◌, List, [], ◌∷◌, eqb, ltb, length, Some}
 use Rattle.std.proofs.Math.Option.{some}
 use Rattle.layout.specs.Reading.{Entry, Basic, failed, basic}
 use Rattle.layout.specs.Read.{reads, other_type, unfit}
 use Rattle.layout.proofs.Read.{reading}
 use Rattle.answer.specs.Verdict.{saying, refused_at, refused}
-use Rattle.answer.specs.declared.Place.TheVariants as place
 use Rattle.rules.specs.declared.Question.{Question}
 use Rattle.rules.specs.Question.{in_range}
 use Rattle.rules.specs.Signer.{is_signer, in_response, in_entry, strange_in}
@@ -21,7 +20,7 @@ module _ (q : Question) (name s : List ℕ) (range : in_range q name ≡ true) w
   row_2 h = rw (range, h)
 
   module _ (size : ltb 16384 (length s) ≡ false) where
-    pub row_3 : (p : ℕ) → reading s ≡ unfit p → answer_of q name s ≡ refused_at 3 0 (place.At p)
+    pub row_3 : (p : ℕ) → reading s ≡ unfit p → answer_of q name s ≡ refused_at 3 0 (Some p)
     unfolding answer_of tests first_of
     row_3 p r = rw (range, size, r)
 

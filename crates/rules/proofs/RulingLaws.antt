@@ -3,14 +3,13 @@
 -- said_no_refusal; accepted_answer, refused_answer, accepted_exactly, accepted_verdict, accepted_placeless; good_exactly, unknown_exactly,
 -- revoked_exactly; never_old. Refusals are in RefusalLaws; that no answer is about another card is in OneCardLaws.
 -- The definitions are in Ruling and Accepted. Assumes nothing.
-use Rattle.std.specs.Prelude.{ℕ, ◌+◌, ◌≤◌, ◌↔◌, ◌≡◌, refl, Bool, true, false, List, eqb}
+use Rattle.std.specs.Prelude.{ℕ, ◌+◌, ◌≤◌, ◌↔◌, ◌≡◌, refl, Bool, true, false, List, eqb, Option}
 use Rattle.std.proofs.Common.{arith, sym, ap, ◌∙◌, eqb-true, ne_eqb}
-use Rattle.std.proofs.Math.Option.{Option}
+use Rattle.std.proofs.Math.Option as maybe
 use Rattle.std.proofs.lemmas.Bool.{eqb-false}
 use Rattle.layout.specs.Reading.{Status, good, revoked, unknown, Entry, Basic}
 use Rattle.layout.proofs.Read.{reading}
 use Rattle.answer.specs.Verdict.{saying, without_place, refused_at}
-use Rattle.answer.specs.declared.Reason.{Reason}
 use Rattle.answer.specs.declared.Verdict.{Verdict}
 use Rattle.answer.specs.declared.Verdict.TheVariants.{Good, Revoked, Unknown}
 use Rattle.answer.specs.declared.Answer.{Answer}
@@ -37,8 +36,8 @@ said_unknown good t n this next e = let z : ◌≡◌ {A = ℕ} 0 1 = cc in absu
 said_unknown unknown t n this next e = (refl, cc, cc)
 said_unknown (revoked d r) t n this next e = let z : ◌≡◌ {A = ℕ} 0 1 = cc in absurd (omega arith)
 
-said_revoked : (x : Status) (t n this next at : ℕ) (reason : Reason) → said x t n ≡ Revoked this next at reason
-    → (r : Option ℕ) × (x ≡ revoked at r) × (reason_in r ≡ reason) × (t ≡ this) × (n ≡ next)
+said_revoked : (x : Status) (t n this next at : ℕ) (reason : Option ℕ) → said x t n ≡ Revoked this next at reason
+    → (r : maybe.Option ℕ) × (x ≡ revoked at r) × (reason_in r ≡ reason) × (t ≡ this) × (n ≡ next)
 said_revoked good t n this next at reason e = let z : ◌≡◌ {A = ℕ} 0 1 = cc in absurd (omega arith)
 said_revoked unknown t n this next at reason e = let z : ◌≡◌ {A = ℕ} 0 1 = cc in absurd (omega arith)
 said_revoked (revoked d r) t n this next at reason e = let i : d ≡ at = cc in (r, ap (λ (k : ℕ). revoked k r) i, cc, cc, cc)
@@ -113,9 +112,9 @@ module _ (q : Question) (name s : List ℕ) where
   )
 
   -- revoked, at a time and for a reason or none, exactly when it is accepted and the status is that
-  pub revoked_exactly : (this next at : ℕ) (reason : Reason)
+  pub revoked_exactly : (this next at : ℕ) (reason : Option ℕ)
       → (answer_of q name s).verdict ≡ Revoked this next at reason
-      ↔ (b : Basic) × (e : Entry) × (r : Option ℕ) × Accepted q name s b e next × (e.status ≡ revoked at r) × (reason_in r ≡ reason) × (e.this_update ≡ this)
+      ↔ (b : Basic) × (e : Entry) × (r : maybe.Option ℕ) × Accepted q name s b e next × (e.status ≡ revoked at r) × (reason_in r ≡ reason) × (e.this_update ≡ this)
   revoked_exactly this next at reason = (
     λ v.
         let (b, e, n, a) = accepted_exactly.0 (times_no_refusal _ this next (rw v (refl, refl))) in

@@ -1,12 +1,11 @@
 -- The times of an entry against document 01's sentences 13 to 16.
 -- missed_none, times_exactly; missed_13, missed_14, missed_15, missed_16.
 -- The definition, missed, is in Order; freshness itself is a crate of its own. Assumes nothing.
-use Rattle.std.specs.Prelude.{ℕ, ◌+◌, ◌≤◌, ◌<◌, ◌↔◌, ◌≡◌, refl, false, eqb}
+use Rattle.std.specs.Prelude.{ℕ, ◌+◌, ◌≤◌, ◌<◌, ◌↔◌, ◌≡◌, refl, false, eqb, None}
 use Rattle.std.proofs.Common.{arith, ⊎_elim, sym, ap}
 use Rattle.std.proofs.Math.Option.{Option, none, some}
 use Rattle.std.proofs.lemmas.Bool.{eqb-false}
 use Rattle.layout.specs.Reading.{Entry}
-use Rattle.freshness.specs.declared.Next.TheVariants.{Absent}
 use Rattle.freshness.specs.Fresh.{fresh_of, fresh_refusal}
 use Rattle.freshness.specs.FreshLaws.{fresh_exactly, refusal_fresh, refusal_range, refusal_13, refusal_14, refusal_15, refusal_16}
 use Rattle.rules.specs.declared.Question.{Question}
@@ -31,7 +30,7 @@ module _ (this now tolerance : ℕ) where
   Counts n = (next : ℕ) × (n ≡ some next) × (this ≤ next) × (this ≤ now) × (now ≤ next + tolerance)
 
   counts_exactly : (n : Option ℕ) → fresh_refusal (fresh_of this (next_in n) now tolerance) ≡ 0 ↔ Counts n
-  counts_exactly none = (λ e. absurd (omega (arith, (refusal_13 this Absent now tolerance).1 refl)), λ h. some_none (sym h.1))
+  counts_exactly none = (λ e. absurd (omega (arith, (refusal_13 this None now tolerance).1 refl)), λ h. some_none (sym h.1))
   counts_exactly (some n) = (
     λ e. let f = (fresh_exactly this n now tolerance).0 ((refusal_fresh _).0 e) in (n, refl, f.0, f.1, f.2),
     λ (next, p, a, b, d).
@@ -50,7 +49,7 @@ times_exactly q e = counts_exactly e.this_update q.now q.tolerance e.next_update
 pub missed_13 : (q : Question) (e : Entry) → missed q e ≡ 13 ↔ e.next_update ≡ none
 missed_13 q e = (λ r. absent e.next_update ((refusal_13 e.this_update (next_in e.next_update) q.now q.tolerance).0 r), λ p. (refusal_13 e.this_update (next_in e.next_update) q.now q.tolerance).1 (ap next_in p))
   where
-    absent : (n : Option ℕ) → next_in n ≡ Absent → n ≡ none
+    absent : (n : Option ℕ) → next_in n ≡ None → n ≡ none
     absent none p = refl
     absent (some n) p = let z : ◌≡◌ {A = ℕ} 0 1 = cc in absurd (omega arith)
 

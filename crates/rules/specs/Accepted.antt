@@ -2,7 +2,7 @@
 -- table of refusals. The check that is run is in Ruling; that it accepts exactly these is in RulingLaws.
 -- InRange; Signs, KnownInResponse, KnownInEntry, Understood, NotUnderstood; Accepted; NoRefusal, HasTimes, IsRefusal.
 -- Assumes nothing.
-use Rattle.std.specs.Prelude.{ℕ, ◌+◌, ◌≤◌, ◌⊎◌, ◌≡◌, true, length}
+use Rattle.std.specs.Prelude.{ℕ, ◌+◌, ◌≤◌, ◌⊎◌, ◌≡◌, true, length, None, Some}
 use mathlib.Core.List.{List, [], ◌∷◌, Memᴰ}
 use Rattle.std.proofs.Math.Option.{Option, none, some}
 use Rattle.calendar.specs.Time.{last_second}
@@ -13,7 +13,6 @@ use Rattle.layout.proofs.Read.{reading}
 use Rattle.answer.specs.Card.{card_ok, empty_card}
 use Rattle.answer.specs.declared.Verdict.{Verdict}
 use Rattle.answer.specs.declared.Verdict.TheVariants.{Good, Revoked, Unknown, Refused}
-use Rattle.answer.specs.declared.Place.TheVariants as place
 use Rattle.answer.specs.declared.Answer.{Answer}
 use Rattle.rules.specs.declared.Question.{Question}
 use Rattle.rules.specs.Signer.{ocsp_oid}
@@ -106,5 +105,5 @@ pub record IsRefusal (s : List ℕ) (a : Answer) (number status : ℕ) : Type 0 
   pub four : number ≡ 4 → reading s ≡ reads (failed status)
   pub other : (number ≡ 4 → ⊥) → status ≡ 0
   -- with 3 goes the place of the response that does not fit, with another number none
-  pub three : number ≡ 3 → (p : ℕ) × (reading s ≡ unfit p) × (a.place ≡ place.At p)
-  pub placeless : (number ≡ 3 → ⊥) → a.place ≡ place.Absent
+  pub three : number ≡ 3 → (p : ℕ) × (reading s ≡ unfit p) × (a.place ≡ Some p)
+  pub placeless : (number ≡ 3 → ⊥) → a.place ≡ None

@@ -2,16 +2,13 @@
 -- applies.
 -- Case; tests, first_of. What is answered then is in Ruling.
 -- Assumes nothing.
-use Rattle.std.specs.Prelude.{ℕ, ◌%◌, Bool, true, false, cond, ◌&&◌, not, List, [], ◌∷◌, ltb, eqb}
-use Rattle.std.proofs.Math.Option.{Option, none, some}
+use Rattle.std.specs.Prelude.{ℕ, ◌%◌, Bool, true, false, cond, ◌&&◌, not, List, [], ◌∷◌, ltb, eqb, None, Some, Option}
+use Rattle.std.proofs.Math.Option as maybe
+use Rattle.std.proofs.Math.Option.{none, some}
 use Rattle.layout.specs.Reading.{Entry, Basic, failed, basic}
 use Rattle.layout.specs.Read.{Outcome, reads, other_type, unfit}
 use Rattle.freshness.specs.Fresh.{fresh_of, fresh_refusal}
-use Rattle.freshness.specs.declared.Next.{Next}
-use Rattle.freshness.specs.declared.Next.TheVariants.{At, Absent}
 use Rattle.answer.specs.declared.Card.{Card}
-use Rattle.answer.specs.declared.Place.{Place}
-use Rattle.answer.specs.declared.Place.TheVariants as place
 use Rattle.rule_matching.specs.Match.{is_for}
 use Rattle.rules.specs.declared.Question.{Question}
 use Rattle.rules.specs.Question.{in_range}
@@ -50,10 +47,10 @@ status_in (reads (failed n)) = n
 status_in (reads (basic b)) = 0
 
 -- the place of a response that does not fit, else none
-abbrev pub misfit_in : Outcome → Place
-misfit_in (unfit p) = place.At p
-misfit_in other_type = place.Absent
-misfit_in (reads r) = place.Absent
+abbrev pub misfit_in : Outcome → Option ℕ
+misfit_in (unfit p) = Some p
+misfit_in other_type = None
+misfit_in (reads r) = None
 
 -- what is so of the basic response, where there is one
 abbrev pub in_basic : Outcome → (Basic → Bool) → Bool
@@ -87,9 +84,9 @@ abbrev pub lacks_mark : ℕ → Bool
 lacks_mark marks = not (eqb (marks % 8) 7)
 
 -- an entry's nextUpdate, absent or present
-abbrev pub next_in : Option ℕ → Next
-next_in none = Absent
-next_in (some n) = At n
+abbrev pub next_in : maybe.Option ℕ → Option ℕ
+next_in none = None
+next_in (some n) = Some n
 
 -- the number of the rule that an entry's times miss first, 13 to 16, or 0
 abbrev pub missed : Question → Entry → ℕ

@@ -1,5 +1,5 @@
 -- The question's ranges (document 01, refusal 1).
--- inRange.
+-- in_range.
 -- Assumes nothing.
 use Rattle.std.specs.Prelude.{ℕ, Bool, ◌&&◌, List, leb, length}
 use Rattle.freshness.specs.Clock.{now_ok, tolerance_ok}

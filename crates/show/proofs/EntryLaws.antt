@@ -2,27 +2,28 @@
 -- response with a refusal gives that refusal at every ordinal.
 -- entry_refused; entry_by, entry_shown, entry_past, entry_stands.
 -- The definitions are in Shown. Assumes nothing.
-use Rattle.std.specs.Prelude.{ℕ, ◌+◌, ◌≤◌, ◌<◌, ◌≡◌, refl, Bool, true, false, cond, List, ◌++◌, ltb, length, take, drop}
+use Rattle.std.specs.Prelude.{ℕ, ◌+◌, ◌≤◌, ◌<◌, ◌≡◌, refl, Bool, true, false, cond, List, ◌++◌, ltb, length, take, drop, Ok, Err}
 use Rattle.std.proofs.Common.{arith, sym, ap, ◌∙◌, append_assoc, length-append, take-append-drop, length-take-le, lt-ltb, le-ltb}
 use Rattle.octets.specs.Octets.{Octets}
+use Rattle.element.specs.Places.{span}
 use Rattle.codec.specs.Many.{forms}
 use Rattle.layout.specs.Reading as reading
 use Rattle.layout.proofs.Format.{single_response}
 use Rattle.layout.specs.Read.{Outcome, reads, other_type, unfit}
 use Rattle.layout.proofs.Read.{reading}
-use Rattle.read_response.specs.Parts.{span, judged_as, judged_of, parts_in}
+use Rattle.read_response.specs.Parts.{judged_as, judged_of, parts_in}
 use Rattle.read_response.specs.Stands.{Stands}
 use Rattle.read_response.proofs.Stands.{part_stands}
 use Rattle.read_response.proofs.PartsLaws.{entries_stand}
 use Rattle.show.specs.Shown.{refused_entry, entry_in, entry_as, entry_of}
 use Rattle.show.proofs.StepsLaws.{forms_cut}
 use Rattle.read_response.specs.declared.Parts.{Parts}
-use Rattle.read_response.specs.declared.Judged.{Judged}
-use Rattle.read_response.specs.declared.Judged.TheVariants as judged
+use Rattle.read_response.specs.declared.Unread.TheVariants as unread
+use Rattle.read_response.specs.Judged.{Judged}
 use Rattle.show.specs.declared.Entry.TheVariants as entry
 
 -- what is not judged basic has no entry: its refusal stands at every ordinal
-pub entry_refused : (s : List ℕ) (k : ℕ) (j : Judged) → judged_of s ≡ j → ((t : Parts) → j ≡ judged.Basic t → ⊥) → entry_of s k ≡ refused_entry j
+pub entry_refused : (s : List ℕ) (k : ℕ) (j : Judged) → judged_of s ≡ j → ((t : Parts) → j ≡ Ok t → ⊥) → entry_of s k ≡ refused_entry j
 unfolding judged_of judged_as entry_of entry_as
 entry_refused s k j e other = go (ltb 16384 (length s)) e
   where
@@ -32,7 +33,7 @@ entry_refused s k j e other = go (ltb 16384 (length s)) e
     on other_type e = ap refused_entry e
     on (unfit p) e = ap refused_entry e
 
-    go : (b : Bool) → cond b judged.TooLong (judged_as (length s) (reading s)) ≡ j → cond b (refused_entry judged.TooLong) (entry_as (length s) k (reading s)) ≡ refused_entry j
+    go : (b : Bool) → cond b (Err unread.TooLong) (judged_as (length s) (reading s)) ≡ j → cond b (refused_entry (Err unread.TooLong)) (entry_as (length s) k (reading s)) ≡ refused_entry j
     go true e = ap refused_entry e
     go false e = on (reading s) e
 

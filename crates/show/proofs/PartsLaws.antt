@@ -2,22 +2,22 @@
 -- part_lent; signed_inside, algorithm_inside, signature_inside, list_inside; signed_octets, signature_octets.
 -- `Octets s` says that the numbers of a list are octets; of a call's response its type says so, a slice of `u8`.
 -- The definitions are in Parts and Shown. Assumes nothing.
-use Rattle.std.specs.Prelude.{ℕ, ◌+◌, ◌≤◌, ◌≡◌, List}
+use Rattle.std.specs.Prelude.{ℕ, ◌+◌, ◌≤◌, ◌≡◌, List, Ok, Err}
 use Rattle.std.proofs.Common.{arith}
 use Rattle.std.proofs.Math.Path.{refl}
 use Rattle.std.proofs.Math.ListN.{length}
 use Rattle.octets.specs.Octets.{Octets}
 use Rattle.octets.specs.LentLaws.{Known, known_octets}
+use Rattle.element.specs.declared.Span.{Span}
 use Rattle.layout.specs.Reading.{Basic, basic}
 use Rattle.layout.specs.Read.{reads}
 use Rattle.layout.proofs.Read.{reading}
 use Rattle.read_response.specs.Parts.{judged_of, parts_in}
 use Rattle.read_response.proofs.PartsLaws.{signed_stands, algorithm_stands, signature_stands, certificates_stand}
 use Rattle.read_response.proofs.JudgedLaws.{judged_basic}
-use Rattle.read_response.specs.declared.Span.{Span}
 use Rattle.read_response.specs.declared.Parts.{Parts}
-use Rattle.read_response.specs.declared.Judged.{Judged}
-use Rattle.read_response.specs.declared.Judged.TheVariants as judged
+use Rattle.read_response.specs.declared.Unread.TheVariants as unread
+use Rattle.read_response.specs.Judged.{Judged}
 use Rattle.show.specs.Parts.{empty_span, no_parts, shown_parts}
 use Rattle.show.specs.Shown.{octets_in, signed_in, signed_of, signature_in, signature_of}
 
@@ -38,11 +38,8 @@ module _ (s : List ℕ) where
       nowhere = rw z (omega arith)
 
       go : (j : Judged) → judged_of s ≡ j → (f (shown_parts j)).start + (f (shown_parts j)).len ≤ length s
-      go (judged.Basic t) e = let r = judged_basic s t e in rw r.parts (h r.value r.read)
-      go judged.TooLong e = nowhere
-      go (judged.Unfit p) e = nowhere
-      go (judged.Failed n) e = nowhere
-      go judged.OtherType e = nowhere
+      go (Ok t) e = let r = judged_basic s t e in rw r.parts (h r.value r.read)
+      go (Err u) e = nowhere
 
   module _ (o : Octets s) where
     pub signed_inside : (shown_parts (judged_of s)).signed.start + (shown_parts (judged_of s)).signed.len ≤ length s
@@ -64,19 +61,19 @@ module _ (s : List ℕ) where
   signed_octets = go (judged_of s)
     where
       go : (j : Judged) → octets_in s (shown_parts j).signed ≡ signed_in s j
-      go (judged.Basic t) = refl
-      go judged.TooLong = refl
-      go (judged.Unfit p) = refl
-      go (judged.Failed n) = refl
-      go judged.OtherType = refl
+      go (Ok t) = refl
+      go (Err unread.TooLong) = refl
+      go (Err (unread.Unfit m)) = refl
+      go (Err (unread.Failed n)) = refl
+      go (Err unread.OtherType) = refl
 
   pub signature_octets : octets_in s (shown_parts (judged_of s)).signature ≡ signature_of s
   unfolding shown_parts signature_of signature_in
   signature_octets = go (judged_of s)
     where
       go : (j : Judged) → octets_in s (shown_parts j).signature ≡ signature_in s j
-      go (judged.Basic t) = refl
-      go judged.TooLong = refl
-      go (judged.Unfit p) = refl
-      go (judged.Failed n) = refl
-      go judged.OtherType = refl
+      go (Ok t) = refl
+      go (Err unread.TooLong) = refl
+      go (Err (unread.Unfit m)) = refl
+      go (Err (unread.Failed n)) = refl
+      go (Err unread.OtherType) = refl

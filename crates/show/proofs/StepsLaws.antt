@@ -1,17 +1,16 @@
 -- Laws of elements found from header to header: they lie inside the list, and of entries they are the
 -- entries' forms.
--- step_inside, steps_inside, steps_more; forms_cut, drop_forms; step_form, step_forms, steps_forms, entry_after.
+-- step_inside, steps_inside, steps_more, steps_next; forms_cut, drop_forms; step_form, step_forms, steps_forms, entry_after.
 -- The definitions are in Steps. Assumes nothing.
-use Rattle.std.specs.Prelude.{ℕ, zero, suc, ◌+◌, ◌-◌, ◌^◌, ◌≤◌, ◌<◌, ◌≡◌, refl, true, List, [], ◌∷◌, ◌++◌, length, take, drop}
+use Rattle.std.specs.Prelude.{ℕ, zero, suc, ◌+◌, ◌-◌, ◌^◌, ◌≤◌, ◌<◌, ◌≡◌, refl, true, List, [], ◌∷◌, ◌++◌, length, take, drop, Ok, Err}
 use Rattle.std.proofs.Common.{arith, sym, ap, ◌∙◌, append_assoc, append-nil, length-append, length-drop}
-use Rattle.std.proofs.Math.Seq.{drop-append_seam}
+use Rattle.std.proofs.Math.Seq.{drop-append_seam, drop-drop}
 use Rattle.element.specs.Tag.{tag_ok}
 use Rattle.element.specs.Form.{form_of}
 use Rattle.element.specs.FormLaws.{form_length}
 use Rattle.element.specs.Header.{header_of}
 use Rattle.element.specs.HeaderLaws.{header_inside}
-use Rattle.element.specs.declared.Header.{Header}
-use Rattle.element.specs.declared.Header.TheVariants.{Found, Refused}
+use Rattle.element.specs.Places.{HeaderRead}
 use Rattle.codec.proofs.PartLaws.{form_found, small_left, small_right, small_content}
 use Rattle.codec.specs.Many.{forms}
 use Rattle.layout.specs.Reading.{Entry}
@@ -25,9 +24,9 @@ pub step_inside : (s : List ℕ) → step_size s ≤ length s
 unfolding step_size
 step_inside s = go (header_of s) refl
   where
-    go : (x : Header) → header_of s ≡ x → head_span x ≤ length s
-    go (Found t h n) e = (header_inside s t h n e).1
-    go (Refused p) e = omega arith
+    go : (x : HeaderRead) → header_of s ≡ x → head_span x ≤ length s
+    go (Ok h) e = (header_inside s h.tag h.start h.len e).1
+    go (Err p) e = omega arith
 
 pub steps_inside : (k : ℕ) (s : List ℕ) → steps_size k s ≤ length s
 unfolding steps_size
@@ -41,6 +40,16 @@ pub steps_more : (k : ℕ) (s : List ℕ) → 0 < k → steps_size k s ≡ step_
 unfolding steps_size
 steps_more zero s h = absurd (omega arith)
 steps_more (suc k) s h = let e : suc k - 1 ≡ k = omega arith in rw e
+
+pub steps_next : (k : ℕ) (s : List ℕ) → steps_size (k + 1) s ≡ steps_size k s + step_size (drop (steps_size k s) s)
+unfolding steps_size
+steps_next zero s = omega arith
+steps_next (suc k) s =
+    let n = step_size s in
+    let i = steps_next k (drop n s) in
+    let d = drop-drop (steps_size k (drop n s)) n s in
+    let e : suc k + 1 ≡ suc (k + 1) = omega arith in
+    rw e (rw (i, d) (omega arith))
 
 -- ── forms, cut ──
 module _ {A : Type 0} (f : A → List ℕ) where

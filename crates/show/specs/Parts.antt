@@ -2,14 +2,15 @@
 -- empty_span, no_parts, shown_parts.
 -- An empty part starts at 0 and has no octets. That a part lies inside the response, and what its octets are, is in PartsLaws.
 -- Assumes nothing.
-use Rattle.read_response.specs.declared.Span.{Span}
+use Rattle.std.specs.Prelude.{Ok, Err}
+use Rattle.element.specs.declared.Span.{Span}
+use Rattle.element.specs.Places.{span}
 use Rattle.read_response.specs.declared.Parts.{Parts}
-use Rattle.read_response.specs.declared.Judged.{Judged}
-use Rattle.read_response.specs.declared.Judged.TheVariants.{Basic, TooLong, Unfit, Failed, OtherType}
+use Rattle.read_response.specs.Judged.{Judged}
 
 -- an empty part
 abbrev pub empty_span : Span
-empty_span = record { start = 0; len = 0 }
+empty_span = span 0 0
 
 -- the parts of what has none
 abbrev pub no_parts : Parts
@@ -26,8 +27,5 @@ no_parts = record {
 
 -- the parts of a response, all empty where it is refused
 unfoldable pub shown_parts : Judged → Parts
-shown_parts (Basic p) = p
-shown_parts TooLong = no_parts
-shown_parts (Unfit p) = no_parts
-shown_parts (Failed n) = no_parts
-shown_parts OtherType = no_parts
+shown_parts (Ok p) = p
+shown_parts (Err u) = no_parts

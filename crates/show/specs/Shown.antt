@@ -2,7 +2,8 @@
 -- octets_in, signed_of, signature_of; refused_entry, entry_in, entry_as, entry_of. Their laws are in ShownLaws and
 -- EntryLaws.
 -- Assumes nothing.
-use Rattle.std.specs.Prelude.{ℕ, ◌+◌, ◌-◌, cond, List, [], ltb, length, take, drop}
+use Rattle.std.specs.Prelude.{ℕ, ◌+◌, ◌-◌, cond, List, [], ltb, length, take, drop, Ok, Err}
+use Rattle.element.specs.declared.Span.{Span}
 use Rattle.codec.specs.Many.{forms}
 use Rattle.layout.specs.Reading as reading
 use Rattle.layout.proofs.Format.{single_response, basic_body}
@@ -10,9 +11,8 @@ use Rattle.layout.specs.Read.{Outcome, reads, other_type, unfit}
 use Rattle.layout.proofs.Read.{reading}
 use Rattle.read_response.specs.Parts.{parts_from, judged_as, judged_of}
 use Rattle.read_response.specs.Refusals.{refusal_of}
-use Rattle.read_response.specs.declared.Span.{Span}
-use Rattle.read_response.specs.declared.Judged.{Judged}
-use Rattle.read_response.specs.declared.Judged.TheVariants as judged
+use Rattle.read_response.specs.declared.Unread.TheVariants as unread
+use Rattle.read_response.specs.Judged.{Judged}
 use Rattle.show.specs.declared.Entry.{Entry}
 use Rattle.show.specs.declared.Entry.TheVariants as entry
 
@@ -23,21 +23,21 @@ octets_in s at = take at.len (drop at.start s)
 -- ── the signed part, header included; the signature, without its 00 ──
 -- a refusal gives an empty part
 unfoldable pub signed_in : List ℕ → Judged → List ℕ
-signed_in s (judged.Basic p) = octets_in s p.signed
-signed_in s judged.TooLong = []
-signed_in s (judged.Unfit p) = []
-signed_in s (judged.Failed n) = []
-signed_in s judged.OtherType = []
+signed_in s (Ok p) = octets_in s p.signed
+signed_in s (Err unread.TooLong) = []
+signed_in s (Err (unread.Unfit m)) = []
+signed_in s (Err (unread.Failed n)) = []
+signed_in s (Err unread.OtherType) = []
 
 unfoldable pub signed_of : List ℕ → List ℕ
 signed_of s = signed_in s (judged_of s)
 
 unfoldable pub signature_in : List ℕ → Judged → List ℕ
-signature_in s (judged.Basic p) = octets_in s p.signature
-signature_in s judged.TooLong = []
-signature_in s (judged.Unfit p) = []
-signature_in s (judged.Failed n) = []
-signature_in s judged.OtherType = []
+signature_in s (Ok p) = octets_in s p.signature
+signature_in s (Err unread.TooLong) = []
+signature_in s (Err (unread.Unfit m)) = []
+signature_in s (Err (unread.Failed n)) = []
+signature_in s (Err unread.OtherType) = []
 
 unfoldable pub signature_of : List ℕ → List ℕ
 signature_of s = signature_in s (judged_of s)
@@ -63,4 +63,4 @@ entry_as n k (unfit p) = refused_entry (judged_as n (unfit p))
 
 -- the entry with this ordinal, header included
 unfoldable pub entry_of : List ℕ → ℕ → Entry
-entry_of s k = cond (ltb 16384 (length s)) (refused_entry judged.TooLong) (entry_as (length s) k (reading s))
+entry_of s k = cond (ltb 16384 (length s)) (refused_entry (Err unread.TooLong)) (entry_as (length s) k (reading s))

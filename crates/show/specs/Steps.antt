@@ -1,17 +1,16 @@
 -- Elements one after another, found from header to header.
 -- step_size, steps_size, spot_after. That they find the entries is in StepsLaws.
 -- Assumes nothing.
-use Rattle.std.specs.Prelude.{ℕ, zero, suc, ◌+◌, List, drop}
+use Rattle.std.specs.Prelude.{ℕ, zero, suc, ◌+◌, List, drop, Ok, Err}
 use Rattle.element.specs.Header.{header_of}
-use Rattle.element.specs.declared.Header.{Header}
-use Rattle.element.specs.declared.Header.TheVariants.{Found, Refused}
+use Rattle.element.specs.Places.{HeaderRead}
 use Rattle.show.specs.declared.Entry.{Entry}
 use Rattle.show.specs.declared.Entry.TheVariants as entry
 
 -- by its header: how many octets an element takes, none where there is no header
-abbrev pub head_span : Header → ℕ
-head_span (Found t h n) = h + n
-head_span (Refused p) = 0
+abbrev pub head_span : HeaderRead → ℕ
+head_span (Ok h) = h.start + h.len
+head_span (Err p) = 0
 
 unfoldable pub step_size : List ℕ → ℕ
 step_size s = head_span (header_of s)

@@ -8,12 +8,11 @@
 mod entries; // the entries one by one
 mod parts; // where the parts are, the signed part and the signature
 
-use answer::Place;
 pub use entries::entry_at;
 pub use parts::{octets_at, parts_of, signature, signed_part};
 
 // What stands at an ordinal among the entries.
-#[derive(Clone, Copy)]
+#[derive(Clone, Copy, Debug, PartialEq, Eq)]
 pub enum Entry {
     // The entry, header included: it starts at start and is len octets long.
     At {
@@ -26,6 +25,6 @@ pub enum Entry {
     Refused {
         number: u8,
         status: u8,
-        place: Place,
+        place: Option<usize>,
     },
 }

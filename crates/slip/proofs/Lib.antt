@@ -1,2 +1,1 @@
 pub mod KindCases
-pub mod RuleCases

@@ -1,14 +1,13 @@
 -- Slips by computing: the case of document 01's program, one of each kind, and what must be refused.
 -- slip_computes; card, refusal, good, revoked.
 -- Assumes nothing.
-use Rattle.std.specs.Prelude.{ℕ, ◌≡◌, refl, false, length, replicate}
+use Rattle.std.specs.Prelude.{ℕ, ◌≡◌, refl, false, length, replicate, None, Some}
 use mathlib.Core.List.{List, [], ◌∷◌, ◌++◌, flatten}
 use Rattle.octets.specs.Number.{value_of, octets_of, number_at}
 use Rattle.octets.specs.Same.{same_of}
 use Rattle.octets.specs.Buffer.{room_for}
 use Rattle.content.specs.Serial.{lead_ok, serial_ok}
 use Rattle.answer.specs.declared.Card.{Card}
-use Rattle.answer.specs.declared.Reason.TheVariants.{Given, Absent}
 use Rattle.answer.specs.declared.Verdict.{Verdict}
 use Rattle.answer.specs.declared.Verdict.TheVariants.{Good, Revoked, Unknown}
 use Rattle.answer.specs.declared.Answer.{Answer}
@@ -79,11 +78,11 @@ unfolding slip_computes
 unknown_read = refl
 
 -- revoked at 1, without a reason (FF), for reason 10, and for 7, which is none
-revoked_written : slip_of (said (Revoked 1114909200 1115082000 1 Absent)) ≡ 2 ∷ (card_text ++ times ++ (0 ∷ 0 ∷ 0 ∷ 0 ∷ 0 ∷ 0 ∷ 0 ∷ 1 ∷ 0xff ∷ []))
+revoked_written : slip_of (said (Revoked 1114909200 1115082000 1 None)) ≡ 2 ∷ (card_text ++ times ++ (0 ∷ 0 ∷ 0 ∷ 0 ∷ 0 ∷ 0 ∷ 0 ∷ 1 ∷ 0xff ∷ []))
 unfolding slip_computes
 revoked_written = refl
 
-revoked_read : read_of 20 (2 ∷ (card_text ++ times ++ (0 ∷ 0 ∷ 0 ∷ 0 ∷ 0 ∷ 0 ∷ 0 ∷ 1 ∷ 0x0a ∷ []))) ≡ said (Revoked 1114909200 1115082000 1 (Given 10))
+revoked_read : read_of 20 (2 ∷ (card_text ++ times ++ (0 ∷ 0 ∷ 0 ∷ 0 ∷ 0 ∷ 0 ∷ 0 ∷ 1 ∷ 0x0a ∷ []))) ≡ said (Revoked 1114909200 1115082000 1 (Some 10))
 unfolding slip_computes
 revoked_read = refl
 
@@ -114,7 +113,7 @@ good_size : length (slip_of (said (Good 1114909200 1115082000))) ≡ 78
 unfolding slip_computes
 good_size = refl
 
-revoked_size : length (slip_of (said (Revoked 1114909200 1115082000 1 Absent))) ≡ 87
+revoked_size : length (slip_of (said (Revoked 1114909200 1115082000 1 None))) ≡ 87
 unfolding slip_computes
 revoked_size = refl
 

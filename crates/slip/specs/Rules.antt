@@ -1,10 +1,8 @@
 -- The slip rules (document 01, "Request and slip"), over what an answer says.
 -- times_ok, reason_fits, error_ok, status_fits, number_ok, verdict_ok. The card's rule is `card_ok` of crate answer.
 -- Assumes nothing.
-use Rattle.std.specs.Prelude.{ℕ, Bool, true, false, cond, eqb, leb}
+use Rattle.std.specs.Prelude.{ℕ, Bool, true, false, cond, eqb, leb, None, Some, Option}
 use Rattle.calendar.specs.Time.{last_second}
-use Rattle.answer.specs.declared.Reason.{Reason}
-use Rattle.answer.specs.declared.Reason.TheVariants.{Given, Absent}
 use Rattle.answer.specs.declared.Verdict.{Verdict}
 use Rattle.answer.specs.declared.Verdict.TheVariants.{Good, Revoked, Unknown, Refused}
 
@@ -13,9 +11,9 @@ unfoldable pub times_ok : ℕ → ℕ → Bool
 times_ok this next = cond (leb this next) (leb next last_second) false
 
 -- a reason is 0 to 10 but not 7, or absent
-unfoldable pub reason_fits : Reason → Bool
-reason_fits (Given n) = cond (eqb n 7) false (leb n 10)
-reason_fits Absent = true
+unfoldable pub reason_fits : Option ℕ → Bool
+reason_fits (Some n) = cond (eqb n 7) false (leb n 10)
+reason_fits None = true
 
 -- the status of an error: 1, 2, 3, 5 or 6
 unfoldable pub error_ok : ℕ → Bool

@@ -1,14 +1,12 @@
 -- Laws of the slip rules: the numbers of a verdict that keeps them fit the widths of its row, and the row says the verdict again.
 -- both; verdict_fits, verdict_back; refused_broken.
 -- The definitions are in Rules and Table. Assumes nothing.
-use Rattle.std.specs.Prelude.{ℕ, ◌^◌, ◌≤◌, ◌<◌, ◌≡◌, refl, Bool, true, false, cond, eqb, leb}
+use Rattle.std.specs.Prelude.{ℕ, ◌^◌, ◌≤◌, ◌<◌, ◌≡◌, refl, Bool, true, false, cond, eqb, leb, None, Some, Option}
 use native.Mathlib.Omega.{arith}
 use Rattle.std.proofs.Common.{ap, lit<}
 use borrow.Author.Tests.{eqb-true, leb-true, ne_eqb}
 use Rattle.calendar.specs.Time.{last_second}
 use Rattle.octets.specs.SameLaws.{impossible}
-use Rattle.answer.specs.declared.Reason.{Reason}
-use Rattle.answer.specs.declared.Reason.TheVariants.{Given, Absent}
 use Rattle.answer.specs.declared.Verdict.{Verdict}
 use Rattle.answer.specs.declared.Verdict.TheVariants.{Good, Revoked, Unknown, Refused}
 use Rattle.answer.specs.Verdict.{kind_of, reason_of, values_of}
@@ -30,25 +28,25 @@ module _ (this next : ℕ) (e : times_ok this next ≡ true) where
       let b : next ≤ last_second = leb-true next last_second p.1 in
       (omega arith, omega arith)
 
-reason_fits_lem : (r : Reason) → reason_fits r ≡ true → reason_of r < 256
+reason_fits_lem : (r : Option ℕ) → reason_fits r ≡ true → reason_of r < 256
 unfolding reason_fits
-reason_fits_lem (Given n) e = go (eqb n 7) e
+reason_fits_lem (Some n) e = go (eqb n 7) e
   where
     go : (t : Bool) → cond t false (leb n 10) ≡ true → n < 256
     go true e = impossible e
     go false e = omega (arith, leb-true n 10 e)
-reason_fits_lem Absent e = lit< tt
+reason_fits_lem None e = lit< tt
 
-reason_back : (r : Reason) → reason_fits r ≡ true → reason_from (reason_of r) ≡ r
+reason_back : (r : Option ℕ) → reason_fits r ≡ true → reason_from (reason_of r) ≡ r
 unfolding reason_fits reason_from
-reason_back (Given n) e = go (eqb n 7) e
+reason_back (Some n) e = go (eqb n 7) e
   where
-    go : (t : Bool) → cond t false (leb n 10) ≡ true → cond (eqb n 255) Absent (Given n) ≡ Given n
+    go : (t : Bool) → cond t false (leb n 10) ≡ true → cond (eqb n 255) None (Some n) ≡ Some n
     go true e = impossible e
     go false e =
         let l : n ≤ 10 = leb-true n 10 e in
         rw (ne_eqb n 255 (λ (z : n ≡ 255). omega arith))
-reason_back Absent e = refl
+reason_back None e = refl
 
 status_fits_lem : (number status : ℕ) → status_fits number status ≡ true → status < 256
 unfolding status_fits error_ok
@@ -88,7 +86,7 @@ unfolding verdict_ok row_of row_in
 verdict_back (Good this next) e = refl
 verdict_back (Revoked this next at reason) e =
     let p = both (times_ok this next) (cond (leb at last_second) (reason_fits reason) false) e in
-    ap (λ (r : Reason). Revoked this next at r) (reason_back reason (both (leb at last_second) (reason_fits reason) p.1).1)
+    ap (λ (r : Option ℕ). Revoked this next at r) (reason_back reason (both (leb at last_second) (reason_fits reason) p.1).1)
 verdict_back (Unknown this next) e = refl
 verdict_back (Refused number status) e = refl
 

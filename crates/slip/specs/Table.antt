@@ -2,9 +2,7 @@
 -- Row; reason_from; good_row, revoked_row, unknown_row, refusal_row, rows; no_row, row_in, row_of; card_size, body_size, size_of.
 -- Laws are in TableLaws. A hash has n octets; the code uses n at 20.
 -- Assumes nothing.
-use Rattle.std.specs.Prelude.{ℕ, suc, ◌+◌, Bool, true, false, cond, List, [], ◌∷◌, eqb, get_or}
-use Rattle.answer.specs.declared.Reason.{Reason}
-use Rattle.answer.specs.declared.Reason.TheVariants.{Given, Absent}
+use Rattle.std.specs.Prelude.{ℕ, suc, ◌+◌, Bool, true, false, cond, List, [], ◌∷◌, eqb, get_or, None, Some, Option}
 use Rattle.answer.specs.declared.Verdict.{Verdict}
 use Rattle.answer.specs.declared.Verdict.TheVariants.{Good, Revoked, Unknown, Refused}
 use Rattle.slip.specs.Numbers.{total}
@@ -17,8 +15,8 @@ pub record Row : Type 0 where
   pub says : List ℕ → Verdict
 
 -- a reason from its octet: FF if absent
-unfoldable pub reason_from : ℕ → Reason
-reason_from n = cond (eqb n 255) Absent (Given n)
+unfoldable pub reason_from : ℕ → Option ℕ
+reason_from n = cond (eqb n 255) None (Some n)
 
 -- 01 good: card, thisUpdate 8, nextUpdate 8
 abbrev pub good_row : Row

@@ -1,11 +1,10 @@
 -- Laws of the table: the row of each kind, and that a row says a verdict of its kind with the numbers that it was given.
 -- row_good, row_revoked, row_unknown, row_refusal, row_none; Faithful, reason_octet, row_faithful; verdict_count.
 -- The definitions are in Table. Assumes nothing.
-use Rattle.std.specs.Prelude.{ℕ, ◌⊎◌, ◌≡◌, refl, Bool, true, false, cond, List, [], ◌∷◌, eqb, length, get_or}
+use Rattle.std.specs.Prelude.{ℕ, ◌⊎◌, ◌≡◌, refl, Bool, true, false, cond, List, [], ◌∷◌, eqb, length, get_or, None, Some}
 use Rattle.std.proofs.Common.{arith, inl, inr, sym, ◌∙◌}
 use Rattle.std.proofs.Math.Path.{ap}
 use borrow.Author.Tests.{eqb-true, eqb-false, ne_eqb}
-use Rattle.answer.specs.declared.Reason.TheVariants.{Given, Absent}
 use Rattle.answer.specs.declared.Verdict.{Verdict}
 use Rattle.answer.specs.declared.Verdict.TheVariants.{Good, Revoked, Unknown, Refused}
 use Rattle.answer.specs.Verdict.{kind_of, reason_of, values_of}
@@ -44,7 +43,7 @@ pub reason_octet : (n : ℕ) → reason_of (reason_from n) ≡ n
 unfolding reason_from
 reason_octet n = go (eqb n 255) refl
   where
-    go : (t : Bool) → eqb n 255 ≡ t → reason_of (cond t Absent (Given n)) ≡ n
+    go : (t : Bool) → eqb n 255 ≡ t → reason_of (cond t None (Some n)) ≡ n
     go true e = sym (eqb-true n 255 e)
     go false e = refl
 

@@ -18,17 +18,9 @@ pub(crate) fn kind_of(verdict: Verdict) -> u8
 }
 
 // Whether slips of this kind have a card.
+#[tactic(auto, unfolding(crate::specs::Table::row_of, crate::specs::Table::row_in))]
 pub fn has_card(kind: u8) -> bool
     ensures { result ≡ (row_of kind).carded }
 {
-    if kind == 1 {
-        return true;
-    }
-    if kind == 2 {
-        return true;
-    }
-    if kind == 3 {
-        return true;
-    }
-    false
+    kind == 1 || kind == 2 || kind == 3
 }

@@ -7,25 +7,21 @@ use crate::kinds;
 use answer::Answer;
 
 // How many octets slips of this kind have.
+#[tactic(auto, unfolding(crate::specs::Table::size_of, crate::specs::Table::body_size, crate::specs::Table::row_of, crate::specs::Table::row_in, crate::specs::Numbers::total))]
 pub fn size_of(kind: u8) -> usize
     ensures { result ≡ size_of 20 kind }
 {
-    if kind == 1 {
-        return 78;
+    match kind {
+        1 => 78,
+        2 => 87,
+        3 => 78,
+        4 => 3,
+        _ => 1,
     }
-    if kind == 2 {
-        return 87;
-    }
-    if kind == 3 {
-        return 78;
-    }
-    if kind == 4 {
-        return 3;
-    }
-    1
 }
 
 // How many octets the slip of an answer has.
+#[tactic(auto, using(crate::proofs::KindCases::size_known))]
 pub fn slip_size(answer: Answer) -> usize
     ensures { result ≡ length (slip_of answer) }
 {

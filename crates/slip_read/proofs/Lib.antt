@@ -1,2 +1,1 @@
-pub mod BodyCases
 pub mod ReadCases

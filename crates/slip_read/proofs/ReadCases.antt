@@ -1,11 +1,10 @@
 -- The cases of the slip's reader: what each return has learned of the octets.
--- parse_none, parse_size, parse_room, parse_said; read_fits, read_not.
+-- parse_none, parse_size, parse_room, parse_said, in parse_cases.
 -- Assumes nothing.
 use Prim.Native.Nat.{ℕ, ◌-◌, ◌≤◌}
 use native.Mathlib.Nat.{pos_of_ne-zero, le_of_eq}
 use native.Mathlib.Omega.{arith}
 use mathlib.Core.Path.{◌≡◌, refl, sym, ap, ◌∙◌}
-use mathlib.Core.Bool.{Bool, true, false}
 use mathlib.Core.List.{List, [], ◌∷◌}
 use lib.ListN.{length, get_or, take, drop, length-drop}
 use lib.Seq.{take_all}
@@ -15,7 +14,7 @@ use Rattle.answer.specs.declared.Verdict.{Verdict}
 use Rattle.answer.specs.declared.Answer.{Answer}
 use Rattle.answer.specs.Verdict.{saying, refused}
 use Rattle.slip.specs.Table.{Row, row_of, body_size, size_of}
-use Rattle.slip.specs.Slip.{slip_ok, verdict_in, card_under, parsed_as, parsed, read_of}
+use Rattle.slip.specs.Slip.{verdict_in, card_under, parsed_as, parsed}
 use Rattle.slip.specs.BodyLaws.{answer_same}
 
 module _ (s : List ℕ) where
@@ -69,13 +68,4 @@ module _ (s : List ℕ) where
             let b : card ≡ card_under 20 row (drop 1 s) = q ∙ ap (card_under 20 row) whole in
             answer_same a b ∙ sym (by_kind ∙ rw (eq-eqb (length (drop 1 s)) (body_size 20 row) body_size_lem))
 
-  -- ---- its rules
-
-  module _ (a : Answer) (p : a ≡ parsed 20 s) (t : Bool) (e : t ≡ slip_ok a) where
-    pub read_fits : t ≡ true → a ≡ read_of 20 s
-    unfolding read_of
-    read_fits h = sym (rw (← p, ← e, h))
-
-    pub read_not : t ≡ false → (r : Answer) → r ≡ refused 17 0 → r ≡ read_of 20 s
-    unfolding read_of
-    read_not h r q = q ∙ sym (rw (← p, ← e, h))
+pub ruleset parse_cases = (parse_none, parse_size, parse_room, parse_said)

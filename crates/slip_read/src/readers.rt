@@ -3,19 +3,21 @@ ghost use Rattle.std.specs.Prelude.{◌≡◌, ◌≤◌, length};
 ghost use Rattle.slip.specs.Table.{reason_from, good_row, revoked_row, unknown_row, refusal_row, row_of, body_size};
 ghost use Rattle.slip.specs.Slip.{verdict_in, card_under, parsed, read_of};
 
-use answer::{Answer, Card, Place, Reason, Verdict};
+use answer::{Answer, Card, Verdict};
 
 // A reason from its octet.
-fn reason_from(n: u8) -> Reason
+#[tactic(auto, unfolding(slip::specs::Table::reason_from))]
+fn reason_from(n: u8) -> Option<u8>
     ensures { result ≡ reason_from n }
 {
     if n == 255 {
-        return Reason::Absent;
+        return None;
     }
-    Reason::Given(n)
+    Some(n)
 }
 
 // What the numbers of a body say, where its kind is good.
+#[tactic(auto, using(slip::specs::PlaceLaws::good_at))]
 fn good_in(body: &[u8]) -> Verdict
     requires { 77 ≤ length body.now }
     ensures { result ≡ verdict_in 20 good_row body.now }
@@ -26,6 +28,7 @@ fn good_in(body: &[u8]) -> Verdict
 }
 
 // What they say where it is revoked.
+#[tactic(auto, using(slip::specs::PlaceLaws::revoked_at))]
 fn revoked_in(body: &[u8]) -> Verdict
     requires { 86 ≤ length body.now }
     ensures { result ≡ verdict_in 20 revoked_row body.now }
@@ -43,6 +46,7 @@ fn revoked_in(body: &[u8]) -> Verdict
 }
 
 // What they say where it is unknown.
+#[tactic(auto, using(slip::specs::PlaceLaws::unknown_at))]
 fn unknown_in(body: &[u8]) -> Verdict
     requires { 77 ≤ length body.now }
     ensures { result ≡ verdict_in 20 unknown_row body.now }
@@ -53,6 +57,7 @@ fn unknown_in(body: &[u8]) -> Verdict
 }
 
 // What they say where it is a refusal.
+#[tactic(auto, using(slip::specs::PlaceLaws::refusal_at))]
 fn refusal_in(body: &[u8]) -> Verdict
     requires { 2 ≤ length body.now }
     ensures { result ≡ verdict_in 20 refusal_row body.now }
@@ -63,29 +68,25 @@ fn refusal_in(body: &[u8]) -> Verdict
 }
 
 // What the numbers of a body say, by its kind.
+#[tactic(auto, unfolding(slip::specs::Table::body_size, slip::specs::Table::row_of, slip::specs::Table::row_in, slip::specs::Numbers::total, slip::specs::Slip::verdict_in))]
 fn verdict_in(kind: u8, body: &[u8]) -> Verdict
     requires { body_size 20 (row_of kind) ≤ length body.now }
     ensures { result ≡ verdict_in 20 (row_of kind) body.now }
 {
-    if kind == 1 {
-        return good_in(body);
-    }
-    if kind == 2 {
-        return revoked_in(body);
-    }
-    if kind == 3 {
-        return unknown_in(body);
-    }
-    if kind == 4 {
-        return refusal_in(body);
-    }
-    Verdict::Refused {
-        number: 17,
-        status: 0,
+    match kind {
+        1 => good_in(body),
+        2 => revoked_in(body),
+        3 => unknown_in(body),
+        4 => refusal_in(body),
+        _ => Verdict::Refused {
+            number: 17,
+            status: 0,
+        },
     }
 }
 
 // The card of a body, by its kind: empty where it has none.
+#[tactic(auto, unfolding(slip::specs::Slip::card_under))]
 fn card_under(kind: u8, body: &[u8]) -> Card
     ensures { result ≡ card_under 20 (row_of kind) body.now }
 {
@@ -96,6 +97,7 @@ fn card_under(kind: u8, body: &[u8]) -> Card
 }
 
 // What a slip says, its rules apart: no slip has a place.
+#[tactic(auto, using(crate::proofs::ReadCases::parse_cases))]
 fn parse(s: &[u8]) -> Answer
     ensures { result ≡ parsed 20 s.now }
 {
@@ -109,15 +111,15 @@ fn parse(s: &[u8]) -> Answer
     }
     let verdict = verdict_in(kind, &s[1..]);
     let card = card_under(kind, &s[1..]);
-    let place = Place::Absent;
     Answer {
         verdict,
         card,
-        place,
+        place: None,
     }
 }
 
 // The answer of a slip; refusal 17 where it breaks the slip rules.
+#[tactic(auto, unfolding(slip::specs::Slip::read_of))]
 pub fn read_slip(s: &[u8]) -> Answer
     ensures { result ≡ read_of 20 s.now }
 {

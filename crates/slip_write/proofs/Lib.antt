@@ -1,4 +1,2 @@
 pub mod PutCases
-pub mod VerdictCases
 pub mod WriteCases
-pub mod RuleCases

@@ -1,5 +1,5 @@
 -- The cases of the writer's answer: what each return has learned of the room.
--- answer_refused, buffer_kept, room_known, answer_octets, buffer_written.
+-- answer_refused, buffer_kept, room_known, answer_octets, buffer_written, in write_cases.
 -- Assumes nothing.
 use Prim.Native.Nat.{ℕ, ◌≤◌}
 use native.Mathlib.Omega.{arith}
@@ -73,3 +73,5 @@ module _ (a : Answer) (out : List ℕ) (refusal size : ℕ) (s : size ≡ length
     pub buffer_written : (o : List ℕ) → o ≡ splice out 0 (slip_of a) → o ≡ output_in refusal out (slip_of a)
     unfolding output_in
     buffer_written o p = p ∙ sym (rw written.0 (put_in_room out 0 (slip_of a) (omega (arith, written.1))))
+
+pub ruleset write_cases = (room_known, answer_refused, buffer_kept, answer_octets, buffer_written)

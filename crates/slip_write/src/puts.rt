@@ -8,10 +8,11 @@ ghost use Rattle.slip.specs.Numbers.{numbers_form};
 ghost use Rattle.slip.specs.Table.{size_of};
 ghost use Rattle.slip.specs.Slip.{card_octets, slip_of};
 
-use answer::{Answer, Card, Reason, Verdict};
+use answer::{Answer, Card, Verdict};
 use fields::Output;
 
 // Writes a card's hashes after the kind.
+#[tactic(auto, using(crate::proofs::PutCases::put_hashes))]
 fn put_hashes(card: Card, out: &mut [u8])
     requires { 41 ≤ length out.old }
     ensures { out.new ≡ splice out.old 1 (card.name ++ card.key) }
@@ -23,6 +24,7 @@ fn put_hashes(card: Card, out: &mut [u8])
 }
 
 // Writes a card after the kind.
+#[tactic(auto, using(crate::proofs::PutCases::put_card))]
 fn put_card(card: Card, out: &mut [u8])
     requires { 62 ≤ length out.old }
     ensures { out.new ≡ splice out.old 1 (card_octets card) }
@@ -34,6 +36,7 @@ fn put_card(card: Card, out: &mut [u8])
 }
 
 // Writes a kind and a card.
+#[tactic(auto, using(crate::proofs::PutCases::put_head))]
 fn put_head(kind: u8, card: Card, out: &mut [u8])
     requires { 62 ≤ length out.old }
     ensures { out.new ≡ splice out.old 0 (octets_of 1 kind ++ card_octets card) }
@@ -43,6 +46,7 @@ fn put_head(kind: u8, card: Card, out: &mut [u8])
 }
 
 // Writes a kind, a card, thisUpdate and nextUpdate.
+#[tactic(auto, using(crate::proofs::PutCases::put_times))]
 fn put_times(kind: u8, card: Card, this: u64, next: u64, out: &mut [u8])
     requires { 78 ≤ length out.old }
     ensures { out.new ≡ splice out.old 0 (octets_of 1 kind ++ (card_octets card ++ numbers_form (8 ∷ 8 ∷ []) (this ∷ next ∷ []))) }
@@ -53,6 +57,7 @@ fn put_times(kind: u8, card: Card, this: u64, next: u64, out: &mut [u8])
 }
 
 // Writes the slip of a revoked card, with the octet of its reason.
+#[tactic(auto, using(crate::proofs::PutCases::put_revoked))]
 fn put_revoked(card: Card, this: u64, next: u64, at: u64, reason: u8, out: &mut [u8])
     requires { 87 ≤ length out.old }
     ensures { out.new ≡ splice out.old 0
@@ -64,6 +69,7 @@ fn put_revoked(card: Card, this: u64, next: u64, at: u64, reason: u8, out: &mut 
 }
 
 // Writes the slip of a refusal.
+#[tactic(auto, using(crate::proofs::PutCases::put_refusal))]
 fn put_refusal(number: u8, status: u8, out: &mut [u8])
     requires { 3 ≤ length out.old }
     ensures { out.new ≡ splice out.old 0 (octets_of 1 4 ++ numbers_form (1 ∷ 1 ∷ []) (number ∷ status ∷ [])) }
@@ -74,16 +80,14 @@ fn put_refusal(number: u8, status: u8, out: &mut [u8])
 }
 
 // The octet of a reason.
-fn reason_of(reason: Reason) -> u8
+fn reason_of(reason: Option<u8>) -> u8
     ensures { result ≡ reason_of reason }
 {
-    match reason {
-        Reason::Given(n) => n,
-        Reason::Absent => 255,
-    }
+    reason.unwrap_or(255)
 }
 
 // Writes a slip where there is room for it.
+#[tactic(auto, unfolding(slip::specs::Slip::slip_of, slip::specs::Slip::body_of, slip::specs::Table::size_of, slip::specs::Table::body_size, slip::specs::Table::row_of, slip::specs::Table::row_in, slip::specs::Numbers::total, octets::specs::Number::octets_of))]
 fn put_slip(answer: Answer, out: &mut [u8])
     requires { size_of 20 (kind_of answer.verdict) ≤ length out.old }
     ensures { out.new ≡ splice out.old 0 (slip_of answer) }
@@ -97,10 +101,7 @@ fn put_slip(answer: Answer, out: &mut [u8])
             next,
             at,
             reason,
-        } => {
-            let octet = reason_of(reason);
-            put_revoked(card, this, next, at, octet, out)
-        }
+        } => put_revoked(card, this, next, at, reason_of(reason), out),
         Verdict::Unknown { this, next } => put_times(3, card, this, next, out),
         Verdict::Refused { number, status } => put_refusal(number, status, out),
     }
@@ -108,6 +109,7 @@ fn put_slip(answer: Answer, out: &mut [u8])
 
 // Writes the slip of an answer where there is no refusal yet: 18 where the buffer is too short, and the
 // buffer as it was.
+#[tactic(auto, using(crate::proofs::WriteCases::write_cases))]
 pub(crate) fn write_with(answer: Answer, refusal: u8, out: &mut [u8]) -> Output
     ensures value { result ≡ output_of refusal (length out.old) (length (slip_of answer)) }
     ensures out_after { out.new ≡ output_in refusal out.old (slip_of answer) }

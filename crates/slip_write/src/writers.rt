@@ -8,6 +8,7 @@ use answer::Answer;
 use fields::Output;
 
 // 17 where the answer breaks the slip rules, else 0.
+#[tactic(auto, unfolding(slip::specs::Slip::slip_refusal))]
 fn refusal_of(answer: Answer) -> u8
     ensures { result ≡ slip_refusal answer }
 {

@@ -10,6 +10,7 @@ use mathlib.Core.List.{List}
 use lib.Dec.{eqb}
 use lib.ListN.{length, get_or, take, drop, length-take, length-drop}
 use borrow.Author.Tests.{eq-eqb, ne_eqb}
+use Rattle.std.specs.Prelude.{Ok, Err}
 use mir.Syntax.{w64}
 use mir.Val.{Fits}
 use Rattle.element.specs.Tag.{tag_of}
@@ -17,7 +18,8 @@ use Rattle.element.specs.Header.{header_of}
 use Rattle.element.specs.HeaderLaws.{header_inside, header_tag}
 use Rattle.element.specs.declared.Tag.{Tag}
 use Rattle.element.specs.declared.Header.{Header}
-use Rattle.element.specs.declared.Header.TheVariants.{Found, Refused}
+use Rattle.element.specs.declared.Misfit.{Misfit}
+use Rattle.element.specs.Places.{HeaderRead, misfit}
 use Rattle.codec.specs.Codec.{bad}
 use Rattle.codec.proofs.Any.{all}
 use Rattle.codec.specs.Tree.{constructed}
@@ -27,14 +29,11 @@ use Rattle.codec.specs.TreeTagged.{wanted_of, tree_tagged_dec}
 use Rattle.codec.specs.Many.{all_dec}
 use Rattle.codec.specs.Views.{step_of, fit_of}
 use Rattle.codec.proofs.ViewLaws.{fit_fits, fit_breaks}
-use Rattle.codec.specs.declared.Step.{Step}
-use Rattle.codec.specs.declared.Step.TheVariants.{Taken, Bad}
-use Rattle.codec.specs.declared.Fit.{Fit}
-use Rattle.codec.specs.declared.Fit.TheVariants as fit
+use Rattle.codec.specs.Steps.{Step, Fit}
 use Rattle.tree.specs.Light.{unwanted_of}
 
 -- by the depth
-pub too_deep : (d : ℕ) (s : List ℕ) → d ≡ 0 → Bad 0 ≡ step_of (tree_dec d s)
+pub too_deep : (d : ℕ) (s : List ℕ) → d ≡ 0 → Err (misfit 0) ≡ step_of (tree_dec d s)
 unfolding tree_dec step_of
 too_deep zero s z = refl
 too_deep (suc d) s z = absurd (omega arith)
@@ -45,104 +44,110 @@ one_less zero s z = absurd (z refl)
 one_less (suc d) s z = let e : d ≡ suc d - 1 = omega arith in ap (λ (k : ℕ). node_dec (tree_dec k) s) e
 
 -- a run is shorter than the element that holds it, and an element no longer than its run
-pub run_falls : (s : List ℕ) (r : Header) → r ≡ header_of s → (t h n : ℕ) → r ≡ Found t h n
+pub run_falls : (s : List ℕ) (r : HeaderRead) → r ≡ header_of s → (h : Header) → r ≡ Ok h
     → (m : ℕ) → length s * 2 ≡ m
-    → length (take (h + n - h) (drop h s)) * 2 + 1 < m
-run_falls s r q t h n f m e =
-    let i = header_inside s t h n (sym q ∙ f) in
+    → length (take (h.start + h.len - h.start) (drop h.start s)) * 2 + 1 < m
+run_falls s r q h f m e =
+    let i = header_inside s h.tag h.start h.len (sym q ∙ f) in
     simp (length-take, length-drop) (omega arith)
 
 pub tree_falls : (s : List ℕ) (at m : ℕ) → length s * 2 + 1 ≡ m → length (take (length s - at) (drop at s)) * 2 < m
 tree_falls s at m e = simp (length-take, length-drop) (omega arith)
 
 -- by the header
-module _ (s : List ℕ) (r : Header) (q : r ≡ header_of s) where
-  pub found_end : (t h n : ℕ) → r ≡ Found t h n → h + n ≤ length s
-  found_end t h n f = (header_inside s t h n (sym q ∙ f)).1
+module _ (s : List ℕ) (r : HeaderRead) (q : r ≡ header_of s) where
+  pub found_end : (h : Header) → r ≡ Ok h → h.start + h.len ≤ length s
+  found_end h f = (header_inside s h.tag h.start h.len (sym q ∙ f)).1
 
-  pub found_sum : (t h n : ℕ) → r ≡ Found t h n → length s < 2 ^ 64 → Fits w64 (h + n)
-  found_sum t h n f z = record { fits = omega (arith, found_end t h n f) }
+  pub found_sum : (h : Header) → r ≡ Ok h → length s < 2 ^ 64 → Fits w64 (h.start + h.len)
+  found_sum h f z = record { fits = omega (arith, found_end h f) }
 
   -- the answer for a content, as the code lends it
-  module _ (t h n : ℕ) (f : r ≡ Found t h n) (d : ℕ) (x : Fit)
-      (c : x ≡ fit_of (all_dec (tree_dec d) (take (h + n - h) (drop h s)))) where
-    run_is : fit_of (all_dec (tree_dec d) (take n (drop h s))) ≡ x
-    run_is = let e : h + n - h ≡ n = omega arith in rw e at (sym c)
+  module _ (h : Header) (f : r ≡ Ok h) (d : ℕ) (x : Fit)
+      (c : x ≡ fit_of (all_dec (tree_dec d) (take (h.start + h.len - h.start) (drop h.start s)))) where
+    run_is : fit_of (all_dec (tree_dec d) (take h.len (drop h.start s))) ≡ x
+    run_is = let e : h.start + h.len - h.start ≡ h.len = omega arith in rw e at (sym c)
 
-    pub run_place : (p : ℕ) → x ≡ fit.Breaks p → length s < 2 ^ 64 → Fits w64 (h + p)
+    pub run_place : (p : Misfit) → x ≡ Err p → length s < 2 ^ 64 → Fits w64 (h.start + p.place)
     run_place p y lt =
-        let v = (fit_breaks (all (tree d)) (take n (drop h s)) p (run_is ∙ y)).1 in
-        let i = found_end t h n f in
+        let v = (fit_breaks (all (tree d)) (take h.len (drop h.start s)) p.place (run_is ∙ y)).1 in
+        let i = found_end h f in
         record { fits = omega (arith, simp (length-take, length-drop) at v) }
 
   module _ (d : ℕ) (z : d ≡ 0 → ⊥) where
-    pub refused : (p : ℕ) → r ≡ Refused p → Bad p ≡ step_of (tree_dec d s)
+    pub refused : (p : Misfit) → r ≡ Err p → Err p ≡ step_of (tree_dec d s)
     unfolding node_dec step_of
     refused p f = rw (one_less d s z, ← q, f)
 
-    module _ (t h n : ℕ) (f : r ≡ Found t h n) (k : Tag) (o : k ≡ tag_of t) where
-      bit : constructed t ≡ k.constructed
+    module _ (h : Header) (f : r ≡ Ok h) (k : Tag) (o : k ≡ tag_of h.tag) where
+      bit : constructed h.tag ≡ k.constructed
       bit = ap (λ (x : Tag). x.constructed) (sym o)
 
-      pub primitive : k.constructed ≡ false → Taken (h + n) ≡ step_of (tree_dec d s)
+      pub primitive : k.constructed ≡ false → Ok (h.start + h.len) ≡ step_of (tree_dec d s)
       unfolding node_dec step_of
       primitive b = rw (one_less d s z, ← q, f, bit, b)
 
       module _ (b : k.constructed ≡ true) (x : Fit)
-          (c : x ≡ fit_of (all_dec (tree_dec (d - 1)) (take (h + n - h) (drop h s)))) where
-        pub run_fits : x ≡ fit.Fits → Taken (h + n) ≡ step_of (tree_dec d s)
+          (c : x ≡ fit_of (all_dec (tree_dec (d - 1)) (take (h.start + h.len - h.start) (drop h.start s)))) where
+        pub run_fits : (y : Unit) → x ≡ Ok y → Ok (h.start + h.len) ≡ step_of (tree_dec d s)
         unfolding node_dec step_of
-        run_fits y =
-            let v = fit_fits (all (tree (d - 1))) (take n (drop h s)) (run_is t h n f (d - 1) x c ∙ y) in
+        run_fits y g =
+            let v = fit_fits (all (tree (d - 1))) (take h.len (drop h.start s)) (run_is h f (d - 1) x c ∙ g) in
             rw (one_less d s z, ← q, f, bit, b, v.1)
 
-        pub run_breaks : (p : ℕ) → x ≡ fit.Breaks p → Bad (h + p) ≡ step_of (tree_dec d s)
+        pub run_breaks : (p : Misfit) → x ≡ Err p → Err (misfit (h.start + p.place)) ≡ step_of (tree_dec d s)
         unfolding node_dec step_of
         run_breaks p y =
-            let v = fit_breaks (all (tree (d - 1))) (take n (drop h s)) p (run_is t h n f (d - 1) x c ∙ y) in
+            let v = fit_breaks (all (tree (d - 1))) (take h.len (drop h.start s)) p.place (run_is h f (d - 1) x c ∙ y) in
             rw (one_less d s z, ← q, f, bit, b, v.0)
 
+pub ruleset tree_cases = (too_deep, run_falls, found_end, found_sum, run_place, refused, primitive, run_fits, run_breaks)
+
 -- an element that is refused whatever it holds
-module _ (s : List ℕ) (r : Header) (q : r ≡ header_of s) where
-  pub unwanted_refused : (p : ℕ) → r ≡ Refused p → Bad p ≡ unwanted_of (header_of s)
+module _ (s : List ℕ) (r : HeaderRead) (q : r ≡ header_of s) where
+  pub unwanted_refused : (p : Misfit) → r ≡ Err p → Err p ≡ unwanted_of (header_of s)
   unfolding unwanted_of
   unwanted_refused p f = rw (← q, f)
 
-  pub unwanted_found : (t h n : ℕ) → r ≡ Found t h n → Bad 0 ≡ unwanted_of (header_of s)
+  pub unwanted_found : (h : Header) → r ≡ Ok h → Err (misfit 0) ≡ unwanted_of (header_of s)
   unfolding unwanted_of
-  unwanted_found t h n f = rw (← q, f)
+  unwanted_found h f = rw (← q, f)
+
+pub ruleset unwanted_cases = (unwanted_refused, unwanted_found)
 
 -- by the first octet, where it is the tag that is wanted or not
 module _ (t d : ℕ) (s : List ℕ) (x : Step) where
   module _ (e : x ≡ unwanted_of (header_of s)) where
-    by_header : ((u h n : ℕ) → header_of s ≡ Found u h n → Bad 0 ≡ step_of (cond (eqb u t) (tree_dec d s) (bad 0)))
+    by_header : ((h : Header) → header_of s ≡ Ok h → Err (misfit 0) ≡ step_of (cond (eqb h.tag t) (tree_dec d s) (bad 0)))
         → x ≡ step_of (tree_tagged_dec t d s)
     unfolding tree_tagged_dec step_of unwanted_of
     by_header f = e ∙ go (header_of s) refl
       where
-        go : (y : Header) → header_of s ≡ y → unwanted_of y ≡ step_of (wanted_of t (tree_dec d) s y)
-        go (Refused p) q = refl
-        go (Found u h n) q = f u h n q
+        go : (y : HeaderRead) → header_of s ≡ y → unwanted_of y ≡ step_of (wanted_of t (tree_dec d) s y)
+        go (Err p) q = refl
+        go (Ok h) q = f h q
 
     pub wanted_shallow : d ≡ 0 → x ≡ step_of (tree_tagged_dec t d s)
     unfolding step_of
-    wanted_shallow z = by_header (λ u h n q. on (eqb u t))
+    wanted_shallow z = by_header (λ h q. on (eqb h.tag t))
       where
-        on : (b : Bool) → Bad 0 ≡ step_of (cond b (tree_dec d s) (bad 0))
+        on : (b : Bool) → Err (misfit 0) ≡ step_of (cond b (tree_dec d s) (bad 0))
         on true = too_deep d s z
         on false = refl
 
     pub wanted_none : length s ≡ 0 → x ≡ step_of (tree_tagged_dec t d s)
-    wanted_none z = by_header (λ u h n q. absurd (omega (arith, header_inside s u h n q)))
+    wanted_none z = by_header (λ h q. absurd (omega (arith, header_inside s h.tag h.start h.len q)))
 
     pub wanted_other : (get_or s 0 0 ≡ t → ⊥) → x ≡ step_of (tree_tagged_dec t d s)
     unfolding step_of
-    wanted_other o = by_header (λ u h n q. rw (ne_eqb u t (λ i. o (header_tag s u h n q ∙ i))))
+    wanted_other o = by_header (λ h q. rw (ne_eqb h.tag t (λ i. o (header_tag s h.tag h.start h.len q ∙ i))))
 
   pub wanted_found : (d ≡ 0 → ⊥) → get_or s 0 0 ≡ t → x ≡ step_of (tree_dec d s) → x ≡ step_of (tree_tagged_dec t d s)
   unfolding tree_tagged_dec step_of
   wanted_found z o e = e ∙ go (header_of s) refl
     where
-      go : (y : Header) → header_of s ≡ y → step_of (tree_dec d s) ≡ step_of (wanted_of t (tree_dec d) s y)
-      go (Refused p) q = sym (refused s (Refused p) (sym q) d z p refl)
-      go (Found u h n) q = rw (eq-eqb u t (sym (header_tag s u h n q) ∙ o))
+      go : (y : HeaderRead) → header_of s ≡ y → step_of (tree_dec d s) ≡ step_of (wanted_of t (tree_dec d) s y)
+      go (Err p) q = sym (refused s (Err p) (sym q) d z p refl)
+      go (Ok h) q = rw (eq-eqb h.tag t (sym (header_tag s h.tag h.start h.len q) ∙ o))
+
+pub ruleset wanted_cases = (wanted_shallow, wanted_none, wanted_other, wanted_found)

@@ -15,89 +15,70 @@ ghost use Rattle.codec.specs.Views.{step_of, fit_of};
 ghost use Rattle.tree.specs.Light.{unwanted_of};
 
 use codec::{Fit, Step};
-use element::Header;
+use element::{Header, Misfit};
 
 // Any element at the head of s, at most depth deep: its content is a run where the constructed bit
 // is set, else octets that are not examined.
 #[cycle(read_run_read_tree)]
+#[tactic(auto, using(crate::proofs::TreeCases::tree_cases))]
 pub fn read_tree(s: &[u8], depth: usize) -> Step
     ensures { result ≡ step_of ((tree depth).dec s.now) }
 {
     if depth == 0 {
-        return Step::Bad(0);
+        return Err(Misfit { place: 0 });
     }
-    let header = heads::header_at(s);
-    match header {
-        Header::Refused(p) => Step::Bad(p),
-        Header::Found { tag, start, len } => {
-            let end = start + len;
-            let kind = element::tag_of(tag);
-            if kind.constructed {
-                let run = read_run(&s[start..end], depth - 1);
-                match run {
-                    Fit::Fits => Step::Taken(end),
-                    Fit::Breaks(p) => {
-                        let place = start + p;
-                        Step::Bad(place)
-                    }
-                }
-            } else {
-                Step::Taken(end)
-            }
+    let Header { tag, start, len } = heads::header_at(s)?;
+    let end = start + len;
+    let kind = element::tag_of(tag);
+    if kind.constructed {
+        if let Err(wrong) = read_run(&s[start..end], depth - 1) {
+            let place = start + wrong.place;
+            return Err(Misfit { place });
         }
     }
+    Ok(end)
 }
 
 // Elements up to the end of s, each at most depth deep. Those that hold nothing to look at are stepped
 // over.
 #[cycle(read_run_read_tree)]
+#[tactic(auto, using(crate::proofs::TreeCases::tree_falls))]
 pub fn read_run(s: &[u8], depth: usize) -> Fit
     ensures { result ≡ fit_of ((all (tree depth)).dec s.now) }
 {
     let mut at: usize = 0;
     while at < s.len() {
-        let size = heads::light(&s[at..], depth);
-        if 0 < size {
+        if let Some(size) = heads::light(&s[at..], depth) {
             at += size;
         } else {
-            let step = read_tree(&s[at..], depth);
-            match step {
-                Step::Bad(p) => {
-                    let place = at + p;
-                    return Fit::Breaks(place);
-                }
-                Step::Taken(n) => {
-                    at += n;
+            match read_tree(&s[at..], depth) {
+                Ok(size) => at += size,
+                Err(wrong) => {
+                    let place = at + wrong.place;
+                    return Err(Misfit { place });
                 }
             }
         }
     }
-    Fit::Fits
+    Ok(())
 }
 
 // An element that is refused whatever it holds: at the place where its header is wrong, else at its
 // first octet.
+#[tactic(auto, using(crate::proofs::TreeCases::unwanted_cases))]
 fn unwanted(s: &[u8]) -> Step
     ensures { result ≡ unwanted_of (header_of s.now) }
 {
-    let header = element::read_header(s);
-    match header {
-        Header::Refused(place) => Step::Bad(place),
-        Header::Found { .. } => Step::Bad(0),
-    }
+    element::read_header(s)?;
+    Err(Misfit { place: 0 })
 }
 
 // An element with this tag at the head of s, at most depth deep.
+#[tactic(auto, using(crate::proofs::TreeCases::wanted_cases))]
 pub fn read_tree_tagged(s: &[u8], tag: u8, depth: usize) -> Step
     ensures { result ≡ step_of ((tree_tagged tag depth).dec s.now) }
 {
-    if depth == 0 {
-        return unwanted(s);
-    }
-    if s.len() == 0 {
-        return unwanted(s);
-    }
-    if s[0] != tag {
+    if depth == 0 || s.len() == 0 || s[0] != tag {
         return unwanted(s);
     }
     read_tree(s, depth)

@@ -8,7 +8,6 @@ mod parts; // parts of a response
 mod runs; // runs over a cache
 mod say; // what is written
 
-use answer::Place;
 use std::io;
 use std::io::Read;
 
@@ -21,54 +20,34 @@ fn say_desk(rt: &impl Print, body: &[u8]) -> io::Result<()> {
 
 // The place that the answer carries; - where it carries none.
 fn say_asked(rt: &impl Print, question: &[u8], response: &[u8]) -> io::Result<()> {
-    let answer = desk_case::ask(question, response);
-    let place = answer.place;
-    match place {
-        Place::At(p) => say::say_line(rt, p as u64),
-        Place::Absent => say::say(rt, b"-\n"),
+    match desk_case::ask(question, response).place {
+        Some(place) => say::say_line(rt, place as u64),
+        None => say::say(rt, b"-\n"),
     }
 }
 
 // The same for the desk program's input: a question, and then the response to the end.
 fn say_place(rt: &impl Print, body: &[u8]) -> io::Result<()> {
-    if body.len() < 353 {
-        return say_asked(rt, body, &body[..0]);
+    match body.split_at_checked(353) {
+        Some((question, response)) => say_asked(rt, question, response),
+        None => say_asked(rt, body, &[]),
     }
-    say_asked(rt, &body[..353], &body[353..])
 }
 
 fn say_case(rt: &impl Print, operation: u8, body: &[u8]) -> io::Result<()> {
-    if operation == 1 {
-        return say_desk(rt, body);
+    match operation {
+        1 => say_desk(rt, body),
+        2 => parts::say_signed(rt, body),
+        3 => parts::say_signature(rt, body),
+        4 => parts::say_step(rt, body),
+        5 => papers::say_request(rt, body),
+        6 => papers::say_read(rt, body),
+        7 => papers::say_written(rt, body),
+        8 => runs::say_run(rt, body),
+        9 => parts::say_responder(rt, body),
+        10 => say_place(rt, body),
+        _ => say::say(rt, b"-\n"),
     }
-    if operation == 2 {
-        return parts::say_signed(rt, body);
-    }
-    if operation == 3 {
-        return parts::say_signature(rt, body);
-    }
-    if operation == 4 {
-        return parts::say_step(rt, body);
-    }
-    if operation == 5 {
-        return papers::say_request(rt, body);
-    }
-    if operation == 6 {
-        return papers::say_read(rt, body);
-    }
-    if operation == 7 {
-        return papers::say_written(rt, body);
-    }
-    if operation == 8 {
-        return runs::say_run(rt, body);
-    }
-    if operation == 9 {
-        return parts::say_responder(rt, body);
-    }
-    if operation == 10 {
-        return say_place(rt, body);
-    }
-    say::say(rt, b"-\n")
 }
 
 // Fills the buffer from what is read; whether there was enough. Where a read fails the run ends with its
@@ -76,13 +55,8 @@ fn say_case(rt: &impl Print, operation: u8, body: &[u8]) -> io::Result<()> {
 fn read_full<R: Read>(reader: &mut R, out: &mut [u8]) -> io::Result<bool> {
     match reader.read_exact(out) {
         Ok(()) => Ok(true),
-        Err(error) => {
-            if error.kind() == io::ErrorKind::UnexpectedEof {
-                Ok(false)
-            } else {
-                Err(error)
-            }
-        }
+        Err(error) if error.kind() == io::ErrorKind::UnexpectedEof => Ok(false),
+        Err(error) => Err(error),
     }
 }
 
@@ -110,8 +84,7 @@ fn one_case<R: Read>(rt: &impl Print, reader: &mut R) -> io::Result<bool> {
     if !read_full(reader, &mut head)? {
         return Ok(false);
     }
-    let number = octets::number_at(&head, 1, 4);
-    let octets::Number::Is(size) = number else {
+    let Some(size) = octets::number_at(&head, 1, 4) else {
         return Ok(false);
     };
     let mut space = [0u8; 131072];

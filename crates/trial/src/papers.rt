@@ -2,7 +2,7 @@
 // 8, nextUpdate 8, revocationTime 8, reason 1 (FF if absent), number 1, status 1; what the kind does not
 // have is 0.
 use crate::say;
-use answer::{Answer, Card, Place, Reason, Verdict};
+use answer::{Answer, Card, Verdict};
 use std::io;
 
 // Writes a request into a buffer, and what it holds then.
@@ -24,36 +24,26 @@ pub(crate) fn say_request(rt: &impl Print, body: &[u8]) -> io::Result<()> {
 
 // A verdict from its octets in a case.
 fn verdict_in(body: &[u8]) -> Verdict {
-    let kind = fields::value_at(body, 0, 1);
     let this = fields::value_at(body, 62, 8);
     let next = fields::value_at(body, 70, 8);
-    if kind == 1 {
-        return Verdict::Good { this, next };
-    }
-    if kind == 2 {
-        let at = fields::value_at(body, 78, 8);
-        let reason = reason_in(body);
-        return Verdict::Revoked {
+    match fields::value_at(body, 0, 1) {
+        1 => Verdict::Good { this, next },
+        2 => Verdict::Revoked {
             this,
             next,
-            at,
-            reason,
-        };
+            at: fields::value_at(body, 78, 8),
+            reason: reason_in(body),
+        },
+        3 => Verdict::Unknown { this, next },
+        _ => refusal_in(body),
     }
-    if kind == 3 {
-        return Verdict::Unknown { this, next };
-    }
-    refusal_in(body)
 }
 
-fn reason_in(body: &[u8]) -> Reason {
-    if body.len() < 89 {
-        return Reason::Absent;
+fn reason_in(body: &[u8]) -> Option<u8> {
+    if body.len() < 89 || body[86] == 255 {
+        return None;
     }
-    if body[86] == 255 {
-        return Reason::Absent;
-    }
-    Reason::Given(body[86])
+    Some(body[86])
 }
 
 fn refusal_in(body: &[u8]) -> Verdict {
@@ -80,13 +70,10 @@ pub(crate) fn say_written(rt: &impl Print, body: &[u8]) -> io::Result<()> {
     if body.len() < 90 {
         return say::say(rt, b"short\n");
     }
-    let verdict = verdict_in(body);
-    let card = fields::card_in(&body[1..]);
-    let place = Place::Absent;
     let answer = Answer {
-        verdict,
-        card,
-        place,
+        verdict: verdict_in(body),
+        card: fields::card_in(&body[1..]),
+        place: None,
     };
     let size = body[89] as usize;
     let mut space = [0u8; 255];
@@ -98,20 +85,14 @@ pub(crate) fn say_written(rt: &impl Print, body: &[u8]) -> io::Result<()> {
 
 // A card as 61 octets.
 fn say_card(rt: &impl Print, card: Card) -> io::Result<()> {
-    let name = card.name;
-    say::say_hex(rt, &name)?;
-    let key = card.key;
-    say::say_hex(rt, &key)?;
+    say::say_hex(rt, &card.name)?;
+    say::say_hex(rt, &card.key)?;
     say::say_octets(rt, card.size as u64, 1)?;
-    let serial = card.serial;
-    say::say_hex(rt, &serial)
+    say::say_hex(rt, &card.serial)
 }
 
-fn say_reason(rt: &impl Print, reason: Reason) -> io::Result<()> {
-    match reason {
-        Reason::Given(n) => say::say_octets(rt, n as u64, 1),
-        Reason::Absent => say::say_octets(rt, 255, 1),
-    }
+fn say_reason(rt: &impl Print, reason: Option<u8>) -> io::Result<()> {
+    say::say_octets(rt, reason.unwrap_or(255) as u64, 1)
 }
 
 // An accepted answer.
@@ -151,14 +132,12 @@ pub(crate) fn say_said(rt: &impl Print, card: Card, verdict: Verdict) -> io::Res
 // What a slip says, as an answer in hex.
 pub(crate) fn say_read(rt: &impl Print, body: &[u8]) -> io::Result<()> {
     let answer = slip_read::read_slip(body);
-    let card = answer.card;
-    let verdict = answer.verdict;
-    say_said(rt, card, verdict)?;
-    match verdict {
-        Verdict::Good { .. } => say::say(rt, b"\n"),
-        Verdict::Unknown { .. } => say::say(rt, b"\n"),
-        Verdict::Revoked { .. } => say::say(rt, b"\n"),
+    say_said(rt, answer.card, answer.verdict)?;
+    match answer.verdict {
         Verdict::Refused { number, status } => say_refused(rt, number, status),
+        Verdict::Good { .. } | Verdict::Unknown { .. } | Verdict::Revoked { .. } => {
+            say::say(rt, b"\n")
+        }
     }
 }
 

@@ -1,6 +1,6 @@
 // The operations that ask for parts of a response.
 use crate::say;
-use read_response::Judged;
+use read_response::Unread;
 use show::Entry;
 use std::io;
 use walk_rules::Stepped;
@@ -13,39 +13,27 @@ fn say_why(rt: &impl Print, s: &[u8]) -> io::Result<()> {
 
 // The signed part: where it starts, and the size of the part that is shown.
 pub(crate) fn say_signed(rt: &impl Print, s: &[u8]) -> io::Result<()> {
-    let judged = read_response::judge(s);
-    if let Judged::Basic(parts) = judged {
-        let part = show::signed_part(s);
-        let span = parts.signed;
-        say::say_part(rt, span.start, part.len())
-    } else {
-        say_why(rt, s)
+    match read_response::judge(s) {
+        Ok(parts) => say::say_part(rt, parts.signed.start, show::signed_part(s).len()),
+        Err(_) => say_why(rt, s),
     }
 }
 
 // The signature, likewise.
 pub(crate) fn say_signature(rt: &impl Print, s: &[u8]) -> io::Result<()> {
-    let judged = read_response::judge(s);
-    if let Judged::Basic(parts) = judged {
-        let part = show::signature(s);
-        let span = parts.signature;
-        say::say_part(rt, span.start, part.len())
-    } else {
-        say_why(rt, s)
+    match read_response::judge(s) {
+        Ok(parts) => say::say_part(rt, parts.signature.start, show::signature(s).len()),
+        Err(_) => say_why(rt, s),
     }
 }
 
 // The responder id: where it starts and its size. Where a response does not fit, the place that is wrong
 // stands behind the 3.
 pub(crate) fn say_responder(rt: &impl Print, s: &[u8]) -> io::Result<()> {
-    let judged = read_response::judge(s);
-    match judged {
-        Judged::Basic(parts) => {
-            let span = parts.responder;
-            say::say_part(rt, span.start, span.len)
-        }
-        Judged::Unfit(place) => say::say_misfit(rt, place),
-        Judged::TooLong | Judged::Failed(_) | Judged::OtherType => say_why(rt, s),
+    match read_response::judge(s) {
+        Ok(parts) => say::say_part(rt, parts.responder.start, parts.responder.len),
+        Err(Unread::Unfit(misfit)) => say::say_misfit(rt, misfit.place),
+        Err(Unread::TooLong | Unread::Failed(_) | Unread::OtherType) => say_why(rt, s),
     }
 }
 
@@ -62,20 +50,13 @@ fn step_after(response: &[u8], count: usize) -> Stepped {
 // One step of the walk from a place: the first eight octets of the body, then the response. The walk goes
 // there from its start, and the size that is said is that of the part which was handed out.
 pub(crate) fn say_step(rt: &impl Print, body: &[u8]) -> io::Result<()> {
-    let number = octets::number_at(body, 0, 8);
-    if let octets::Number::Is(place) = number {
-        if 8 <= body.len() {
-            let step = step_after(&body[8..], place as usize);
-            let says = step.says;
-            match says {
-                Entry::At { start, .. } => say::say_part(rt, start, step.size),
-                Entry::End => say::say(rt, b"end\n"),
-                Entry::Refused { number, status, .. } => say::say_refusal(rt, number, status),
-            }
-        } else {
-            Ok(())
-        }
-    } else {
-        say::say(rt, b"short\n")
+    let Some((place, response)) = body.split_at_checked(8) else {
+        return say::say(rt, b"short\n");
+    };
+    let step = step_after(response, fields::value_at(place, 0, 8) as usize);
+    match step.says {
+        Entry::At { start, .. } => say::say_part(rt, start, step.size),
+        Entry::End => say::say(rt, b"end\n"),
+        Entry::Refused { number, status, .. } => say::say_refusal(rt, number, status),
     }
 }

@@ -1,10 +1,10 @@
 // The operation on a cache: a run of filings and asks over one cache. A step is its kind (1 file, 2 ask),
 // now 8, tolerance 8, a size and so many octets: a slip, or a card.
-ghost use Rattle.std.specs.Prelude.{◌≤◌, length};
+ghost use Rattle.std.specs.Prelude.{◌≤◌, ◌<◌, IfSome, length};
 
 use crate::{papers, say};
 use answer::{Card, Verdict};
-use cache_rules::{Asked, Filed};
+use cache_rules::Filed;
 use freshness::Clock;
 use std::io;
 
@@ -16,12 +16,12 @@ fn say_number(rt: &impl Print, number: u64) -> io::Result<()> {
 
 fn say_filed(rt: &impl Print, filed: Filed) -> io::Result<()> {
     match filed {
-        Filed::Count(n) => {
+        Ok(n) => {
             say::say(rt, b"c")?;
             say::say_octets(rt, n as u64, 1)?;
             say::say(rt, b" ")
         }
-        Filed::Refused(number) => say_number(rt, number as u64),
+        Err(unfiled) => say_number(rt, unfiled.number() as u64),
     }
 }
 
@@ -29,17 +29,7 @@ fn say_filed(rt: &impl Print, filed: Filed) -> io::Result<()> {
 fn say_verdict(rt: &impl Print, card: Card, verdict: Verdict) -> io::Result<()> {
     match verdict {
         Verdict::Refused { number, .. } => say_number(rt, number as u64),
-        Verdict::Good { .. } => {
-            say::say(rt, b"s")?;
-            papers::say_said(rt, card, verdict)?;
-            say::say(rt, b" ")
-        }
-        Verdict::Revoked { .. } => {
-            say::say(rt, b"s")?;
-            papers::say_said(rt, card, verdict)?;
-            say::say(rt, b" ")
-        }
-        Verdict::Unknown { .. } => {
+        Verdict::Good { .. } | Verdict::Revoked { .. } | Verdict::Unknown { .. } => {
             say::say(rt, b"s")?;
             papers::say_said(rt, card, verdict)?;
             say::say(rt, b" ")
@@ -47,29 +37,23 @@ fn say_verdict(rt: &impl Print, card: Card, verdict: Verdict) -> io::Result<()> 
     }
 }
 
-fn say_asked(rt: &impl Print, card: Card, asked: Asked) -> io::Result<()> {
+fn say_asked(rt: &impl Print, card: Card, asked: Option<Verdict>) -> io::Result<()> {
     match asked {
-        Asked::NotHeld => say::say(rt, b"n "),
-        Asked::Says(verdict) => say_verdict(rt, card, verdict),
+        Some(verdict) => say_verdict(rt, card, verdict),
+        None => say::say(rt, b"n "),
     }
 }
 
-// Where the step at a place ends; 0 where it is not whole.
-fn step_from(steps: &[u8], at: usize) -> usize
-    ensures { result ≤ length steps.now }
+// Where the step at a place ends, where it is whole.
+fn step_end(steps: &[u8], at: usize) -> Option<usize>
+    ensures { IfSome result (λ end. (at < end) × (end ≤ length steps.now)) }
 {
-    if steps.len() < at {
-        return 0;
+    let step = steps.get(at..)?;
+    let size = fields::value_at(step, 17, 1) as usize;
+    if step.len() < 18 || step.len() - 18 < size {
+        return None;
     }
-    let left = steps.len() - at;
-    if left < 18 {
-        return 0;
-    }
-    let size = fields::value_at(steps, at + 17, 1) as usize;
-    if left - 18 < size {
-        return 0;
-    }
-    at + 18 + size
+    Some(at + 18 + size)
 }
 
 fn clock_in(s: &[u8]) -> Clock {
@@ -79,55 +63,36 @@ fn clock_in(s: &[u8]) -> Clock {
 }
 
 fn file_step(rt: &impl Print, cache: &mut [u8], s: &[u8]) -> io::Result<()> {
-    let clock = clock_in(s);
-    if 18 <= s.len() {
-        let filed = cache_file::file(cache, &s[18..], clock);
-        say_filed(rt, filed)?;
+    if let Some(slip) = s.get(18..) {
+        say_filed(rt, cache_file::file(cache, slip, clock_in(s)))?;
     }
     Ok(())
 }
 
 fn ask_step(rt: &impl Print, cache: &[u8], s: &[u8]) -> io::Result<()> {
-    let clock = clock_in(s);
-    if 18 <= s.len() {
-        let card = fields::card_in(&s[18..]);
-        let told = cache_ask::ask(cache, card, clock);
-        let asked = told.asked;
-        let card = told.card;
-        say_asked(rt, card, asked)?;
+    if let Some(card) = s.get(18..) {
+        let told = cache_ask::ask(cache, fields::card_in(card), clock_in(s));
+        say_asked(rt, told.card, told.asked)?;
     }
     Ok(())
 }
 
 // Does the step that s is, and says its result; whether it was one.
 fn do_step(rt: &impl Print, cache: &mut [u8], s: &[u8]) -> io::Result<bool> {
-    if s.len() < 18 {
-        return Ok(false);
+    match s {
+        [1, ..] => file_step(rt, cache, s)?,
+        [2, ..] if s.len() == 79 => ask_step(rt, cache, s)?,
+        _ => return Ok(false),
     }
-    if s[0] == 1 {
-        file_step(rt, cache, s)?;
-        return Ok(true);
-    }
-    if s[0] != 2 {
-        return Ok(false);
-    }
-    if s.len() != 79 {
-        return Ok(false);
-    }
-    ask_step(rt, cache, s)?;
     Ok(true)
 }
 
 // Does the steps one after the other, as far as they are whole.
 fn do_steps(rt: &impl Print, cache: &mut [u8], steps: &[u8]) -> io::Result<()> {
     let mut at = 0;
-    while at < steps.len() {
-        let end = step_from(steps, at);
-        if end <= at {
-            return Ok(());
-        }
+    while let Some(end) = step_end(steps, at) {
         if !do_step(rt, cache, &steps[at..end])? {
-            return Ok(());
+            break;
         }
         at = end;
     }
@@ -143,12 +108,12 @@ fn run_in(rt: &impl Print, cache: &mut [u8], steps: &[u8]) -> io::Result<()> {
 
 // The same over a copy of the cache, in a space that is lent.
 fn run_on(rt: &impl Print, space: &mut [u8], cache: &[u8], steps: &[u8]) -> io::Result<()> {
-    let n = cache.len();
-    if space.len() < n {
+    if space.len() < cache.len() {
         return Ok(());
     }
-    octets::put(space, 0, cache);
-    run_in(rt, &mut space[..n], steps)
+    let held = &mut space[..cache.len()];
+    held.copy_from_slice(cache);
+    run_in(rt, held, steps)
 }
 
 // Does the run over the cache that a body begins with.

@@ -2,7 +2,7 @@
 -- a number can have; and an error response.
 -- two_handed, two_after, last_place; failed_said.
 -- Assumes nothing.
-use Rattle.std.specs.Prelude.{ℕ, ◌≡◌, List, [], ◌∷◌, ◌++◌, replicate}
+use Rattle.std.specs.Prelude.{ℕ, ◌≡◌, List, [], ◌∷◌, ◌++◌, replicate, None}
 use Rattle.std.proofs.Math.Path.{refl}
 use Rattle.std.specs.Borrow.{Bor}
 use Rattle.layout.proofs.Opened.{opened}
@@ -10,7 +10,6 @@ use Rattle.layout.specs.Examples.{type_element, first, hashes, signature}
 use Rattle.layout.specs.Sha1.{sha1}
 use Rattle.read_response.specs.Parts.{parts_from, judged_as, judged_of}
 use Rattle.read_response.specs.Refusals.{refusal_of}
-use Rattle.answer.specs.declared.Place.TheVariants as place
 use Rattle.show.specs.Shown.{entry_in, entry_as, entry_of}
 use Rattle.show.specs.declared.Entry.TheVariants as entry
 use Rattle.walk_rules.specs.Step.{part_in, part_of, place_after, place_next}
@@ -55,6 +54,6 @@ module _ (x : Bor (List ℕ)) where
   lent_failed = record x { now = 0x30 ∷ 0x03 ∷ 0x0a ∷ 0x01 ∷ 0x06 ∷ [] }
 
   -- 4, and its status, at any place, which stays
-  failed_said : (k : ℕ) → (say_of (at lent_failed k) ≡ entry.Refused 4 6 place.Absent) × (hand_of (at lent_failed k) ≡ []) × (moved_of (at lent_failed k) ≡ at lent_failed k)
+  failed_said : (k : ℕ) → (say_of (at lent_failed k) ≡ entry.Refused 4 6 None) × (hand_of (at lent_failed k) ≡ []) × (moved_of (at lent_failed k) ≡ at lent_failed k)
   unfolding opened judged_of judged_as refusal_of entry_of entry_as part_in part_of place_after place_next
   failed_said k = (refl, refl, refl)

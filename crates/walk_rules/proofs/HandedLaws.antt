@@ -6,7 +6,7 @@
 -- The laws stand here, and what is made of them; the definitions in specs/HandedLaws.
 use Prim.Native.Nat.{ℕ, zero, suc, ◌+◌, ◌-◌, ◌≤◌, ◌<◌}
 use native.Mathlib.Omega.{arith}
-use Rattle.std.specs.Prelude.{◌≡◌, Bool, take, drop}
+use Rattle.std.specs.Prelude.{◌≡◌, Bool, take, drop, Option, Ok}
 use Rattle.std.proofs.Math.Path.{refl, ap}
 use Rattle.std.proofs.Common.{sym, ◌∙◌, drop_of_length-le}
 use Rattle.std.proofs.Math.Bool.{true, false}
@@ -22,12 +22,10 @@ use Rattle.layout.proofs.Format.{single_response}
 use Rattle.layout.specs.Read.{reads}
 use Rattle.layout.proofs.Read.{reading}
 use Rattle.read_response.specs.Parts.{judged_of}
-use Rattle.answer.specs.declared.Place.{Place}
 use Rattle.show.specs.Shown.{refused_entry, entry_of}
 use Rattle.show.proofs.EntryLaws.{entry_refused, entry_shown, entry_past, entry_stands}
 use Rattle.read_response.specs.declared.Parts.{Parts}
-use Rattle.read_response.specs.declared.Judged.{Judged}
-use Rattle.read_response.specs.declared.Judged.TheVariants as judged
+use Rattle.read_response.specs.Judged.{Judged}
 use Rattle.show.specs.declared.Entry.{Entry}
 use Rattle.show.specs.declared.Entry.TheVariants as entry
 use Rattle.walk_rules.specs.Step.{part_in, part_of, place_after, place_next}
@@ -62,7 +60,7 @@ module _ (r : Bor (List ℕ)) (k : ℕ) where
   unfolding part_of part_in place_next place_after
   end_stays e = record { says = e; empty = rw e; none = rw e; stays = rw e }
 
-  refused_stays : (n c : ℕ) (p : Place) → entry_of s k ≡ entry.Refused n c p → Stays r k (entry.Refused n c p)
+  refused_stays : (n c : ℕ) (p : Option ℕ) → entry_of s k ≡ entry.Refused n c p → Stays r k (entry.Refused n c p)
   unfolding part_of part_in place_next place_after
   refused_stays n c p e = record { says = e; empty = rw e; none = rw e; stays = rw e }
 
@@ -85,7 +83,7 @@ module _ (r : Bor (List ℕ)) (k : ℕ) (x : Entry) (h : Stays r k x) where
   after_stays (suc n) = rw h.stays (after_stays n)
 
 -- a refusal stands at every place
-pub refused_step : (r : Bor (List ℕ)) (k : ℕ) (j : Judged) → judged_of r.now ≡ j → ((t : Parts) → j ≡ judged.Basic t → ⊥) → Stays r k (refused_entry j)
+pub refused_step : (r : Bor (List ℕ)) (k : ℕ) (j : Judged) → judged_of r.now ≡ j → ((t : Parts) → j ≡ Ok t → ⊥) → Stays r k (refused_entry j)
 refused_step r k j e other = refused_stays r k _ _ _ (entry_refused r.now k j e other)
 
 -- ── a response that reads as a basic one ──

@@ -3,7 +3,7 @@
 -- HasEntry, entry_has; has_inside, part_sized, has_few.
 -- The definitions are in Step. Assumes nothing.
 -- The laws stand here, and what is made of them; the definitions in specs/StepLaws.
-use Rattle.std.specs.Prelude.{ℕ, ◌+◌, ◌≤◌, ◌<◌, ◌≡◌, refl, Bool, true, false, cond, List, ltb, length, drop}
+use Rattle.std.specs.Prelude.{ℕ, ◌+◌, ◌≤◌, ◌<◌, ◌≡◌, refl, Bool, true, false, cond, List, ltb, length, drop, Err}
 use Rattle.std.proofs.Common.{arith, sym, ap, ◌∙◌, length-take-le, ltb-true, ltb-false}
 use Rattle.std.proofs.Math.ListN.{length-drop}
 use Rattle.octets.specs.Octets.{Octets}
@@ -14,7 +14,7 @@ use Rattle.layout.proofs.Theorem.{sound}
 use Rattle.read_content.specs.ExpectLaws.{never}
 use Rattle.show.specs.Shown.{refused_entry, entry_in, entry_as, entry_of}
 use Rattle.show.proofs.EntryLaws.{entry_shown, entry_stands}
-use Rattle.read_response.specs.declared.Judged.TheVariants as judged
+use Rattle.read_response.specs.declared.Unread.TheVariants as unread
 use Rattle.show.specs.declared.Entry.{Entry}
 use Rattle.show.specs.declared.Entry.TheVariants as entry
 use Rattle.walk_rules.specs.Step.{part_in, part_of}
@@ -35,7 +35,7 @@ entry_has s k start n e = go (ltb 16384 (length s)) refl e
     on le other_type q e = never (cc)
     on le (unfit p) q e = never (cc)
 
-    go : (t : Bool) → ltb 16384 (length s) ≡ t → cond t (refused_entry judged.TooLong) (entry_as (length s) k (reading s)) ≡ entry.At start n → HasEntry s k
+    go : (t : Bool) → ltb 16384 (length s) ≡ t → cond t (refused_entry (Err unread.TooLong)) (entry_as (length s) k (reading s)) ≡ entry.At start n → HasEntry s k
     go true i e = never (cc)
     go false i e = on (ltb-false 16384 (length s) i) (reading s) refl e
 

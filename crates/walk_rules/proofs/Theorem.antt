@@ -4,7 +4,7 @@
 -- once_in_order, place_counts, end_stays, end_for_ever, parts_whole, parts_there; refusal_number,
 -- refusal_stays, refusal_for_ever, refusal_hands_none.
 -- The definitions are in Walked (one step) and Handed (many). Assumes nothing.
-use Rattle.std.specs.Prelude.{ℕ, ◌+◌, ◌≤◌, ◌≡◌, refl, List, [], map, length, take}
+use Rattle.std.specs.Prelude.{ℕ, ◌+◌, ◌≤◌, ◌≡◌, refl, List, [], map, length, take, Ok, Err}
 use native.Mathlib.Omega.{arith}
 use Rattle.std.proofs.Common.{sym, ap, ◌∙◌, take_all}
 use Rattle.std.specs.Borrow.{Bor}
@@ -19,8 +19,8 @@ use Rattle.read_response.proofs.PartsLaws.{entries_stand}
 use Rattle.read_response.specs.Refusals.{refusal_of}
 use Rattle.show.specs.Shown.{octets_in, refused_entry}
 use Rattle.read_response.specs.declared.Parts.{Parts}
-use Rattle.read_response.specs.declared.Judged.{Judged}
-use Rattle.read_response.specs.declared.Judged.TheVariants as judged
+use Rattle.read_response.specs.declared.Unread.TheVariants as unread
+use Rattle.read_response.specs.Judged.{Judged}
 use Rattle.show.specs.declared.Entry.TheVariants as entry
 use Rattle.walk_rules.specs.Walked.{start_of, say_of}
 use Rattle.walk_rules.specs.Handed.{at, handed, after_steps, Stays}
@@ -55,18 +55,18 @@ module _ (r : Bor (List ℕ)) (b : Basic) (o : Octets r.now) (le : length r.now 
   parts_there n h = parts_whole n h ∙ sym (entries_stand r.now b o e).octets
 
 -- ── a response with a refusal ──
-module _ (r : Bor (List ℕ)) (j : Judged) (e : judged_of r.now ≡ j) (other : (t : Parts) → j ≡ judged.Basic t → ⊥) where
+module _ (r : Bor (List ℕ)) (j : Judged) (e : judged_of r.now ≡ j) (other : (t : Parts) → j ≡ Ok t → ⊥) where
   -- its number is from 2 to 5
   pub refusal_number : (2 ≤ (refusal_of j).number) × ((refusal_of j).number ≤ 5)
   unfolding refusal_of
   refusal_number = go j other
     where
-      go : (j : Judged) → ((t : Parts) → j ≡ judged.Basic t → ⊥) → (2 ≤ (refusal_of j).number) × ((refusal_of j).number ≤ 5)
-      go (judged.Basic t) not = absurd (not t refl)
-      go judged.TooLong not = (omega arith, omega arith)
-      go (judged.Unfit p) not = (omega arith, omega arith)
-      go (judged.Failed n) not = (omega arith, omega arith)
-      go judged.OtherType not = (omega arith, omega arith)
+      go : (j : Judged) → ((t : Parts) → j ≡ Ok t → ⊥) → (2 ≤ (refusal_of j).number) × ((refusal_of j).number ≤ 5)
+      go (Ok t) not = absurd (not t refl)
+      go (Err unread.TooLong) not = (omega arith, omega arith)
+      go (Err (unread.Unfit m)) not = (omega arith, omega arith)
+      go (Err (unread.Failed n)) not = (omega arith, omega arith)
+      go (Err unread.OtherType) not = (omega arith, omega arith)
 
   -- every step, from any place, says it, hands out nothing, and stays
   pub refusal_stays : (k : ℕ) → Stays r k (refused_entry j)

@@ -1,5 +1,4 @@
 -- What is left to show of the loop.
-use Prim.Native.Nat.{◌-◌}
 use native.Mathlib.Omega.{arith}
 use Rattle.answer.proofs.ZeroCases.{zero_start, zero_grow, zero_broken, zero_last}
 use Rattle.answer.proofs.cards.all_zero.Goals as goal

@@ -1,14 +1,10 @@
 -- `answer::cards::each_zero` meets its contract. The loop's invariant: the answer is that of the octets before and of what is left.
 -- Assumes nothing.
-use Prim.Native.Nat.{◌-◌, ◌≤◌}
 use mathlib.Core.Path.{◌≡◌}
 use mathlib.Core.Bool.{false, cond}
-use lib.ListN.{length, drop}
+use lib.ListN.{drop}
 use Rattle.answer.specs.Card.{all_zero}
 use Rattle.answer.proofs.cards.each_zero.Given as goal
 
-abbrev pub invariant-loop-i : goal.invariant-loop-i
-invariant-loop-i l = (l.i ≤ length l.s) × (all_zero l.s ≡ cond l.zero (all_zero (drop l.i l.s)) false)
-
-abbrev pub decreases-loop-i : goal.decreases-loop-i
-decreases-loop-i l = length l.s - l.i
+abbrev pub invariant-loop-octet : goal.invariant-loop-octet
+invariant-loop-octet l = all_zero l.s ≡ cond l.zero (all_zero (drop l.octet-index l.s)) false

@@ -1,18 +1,11 @@
--- What is left to show of the loop.
-use Prim.Native.Nat.{◌-◌}
-use native.Mathlib.Omega.{arith}
-use mathlib.Core.Path.{refl}
-use Rattle.answer.proofs.Cases.{fill_next, fill_other, fill_end}
+-- `answer::cards::fill_zero` meets its contract. Assumes nothing.
+use Rattle.std.proofs.Common.{rules, ◌∙◌, eqb}
+use Rattle.std.proofs.lemmas.Iterator.{YieldsList-from_slice}
+use Rattle.std.proofs.lemmas.Iterator.Search.{all_from_yields_List}
+use Rattle.answer.proofs.Cases.{fill_all}
 use Rattle.answer.proofs.cards.fill_zero.Goals as goal
 
-pub loop-at-init : goal.loop-at-init
-loop-at-init c = (omega arith, refl)
-
-pub returns-then-s-at-ne0 : goal.returns-then-s-at-ne0
-returns-then-s-at-ne0 c = search fill_other
-
-pub loop-at-preserved : goal.loop-at-preserved
-loop-at-preserved c = (omega arith, search fill_next)
-
 pub returns : goal.returns
-returns c = search fill_end
+returns c =
+    all_from_yields_List (λ x. eqb x 0) _ _ _ c.all.ensures.ran (YieldsList-from_slice c.args.s.now cc) (λ x b q k. search rules)
+    ∙ fill_all c.args.s.now

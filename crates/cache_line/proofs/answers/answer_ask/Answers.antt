@@ -1,9 +1,6 @@
 -- `cache_line::answers::answer_ask` meets its contract. Assumes nothing.
-use Rattle.cache_line.proofs.AskCases.{slip_short, ask_here, ask_none, ask_refused}
+use Rattle.cache_line.proofs.AskCases.{ask_here, ask_none, ask_refused}
 use Rattle.cache_line.proofs.answers.answer_ask.Goals as goal
-
-pub say_body-requires : goal.say_body-requires
-say_body-requires c = search slip_short
 
 pub returns-in-At : goal.returns-in-At
 returns-in-At c = search ask_here

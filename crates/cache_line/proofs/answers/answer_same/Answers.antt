@@ -2,11 +2,11 @@
 use Rattle.cache_line.proofs.AskCases.{same_ask, same_list, same_other}
 use Rattle.cache_line.proofs.answers.answer_same.Goals as goal
 
-pub returns-then-operation-eq2 : goal.returns-then-operation-eq2
-returns-then-operation-eq2 c = search same_ask
+pub returns-in-2 : goal.returns-in-2
+returns-in-2 c = search same_ask
 
-pub returns-then-operation-eq3 : goal.returns-then-operation-eq3
-returns-then-operation-eq3 c = search same_list
+pub returns-in-3 : goal.returns-in-3
+returns-in-3 c = search same_list
 
-pub returns : goal.returns
-returns c = search same_other
+pub returns-in_default : goal.returns-in_default
+returns-in_default c = search same_other

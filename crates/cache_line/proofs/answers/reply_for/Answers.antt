@@ -1,5 +1,5 @@
 -- `cache_line::answers::reply_for` meets its contract. Assumes nothing.
-use Rattle.cache_line.proofs.InputCases.{input_new, input_new_cache, input_short, input_short_cache, input_first, input_header, input_inside, input_line, input_cache}
+use Rattle.cache_line.proofs.InputCases.{input_new, input_new_cache, input_short, input_short_cache, input_line, input_cache}
 use Rattle.cache_line.proofs.answers.reply_for.Goals as goal
 
 pub returns-then-is_new : goal.returns-then-is_new
@@ -7,24 +7,6 @@ returns-then-is_new c = record { wrote = search input_new; wrote_2 = search inpu
 
 pub returns-then-at-eq0 : goal.returns-then-at-eq0
 returns-then-at-eq0 c = record { wrote = search input_short; wrote_2 = search input_short_cache }
-
-pub bounds-input-0 : goal.bounds-input-0
-bounds-input-0 c = search input_first
-
-pub slice_bounds-answer_with-count : goal.slice_bounds-answer_with-count
-slice_bounds-answer_with-count c = search input_inside
-
-pub slice_bounds-answer_with-start : goal.slice_bounds-answer_with-start
-slice_bounds-answer_with-start c = search input_inside
-
-pub slice_bounds-answer_with-count-2 : goal.slice_bounds-answer_with-count-2
-slice_bounds-answer_with-count-2 c = search input_header
-
-pub slice_bounds-answer_with-start-2 : goal.slice_bounds-answer_with-start-2
-slice_bounds-answer_with-start-2 c = search input_header
-
-pub slice_bounds-answer_with-end-2 : goal.slice_bounds-answer_with-end-2
-slice_bounds-answer_with-end-2 c = search input_inside
 
 pub returns : goal.returns
 returns c = record { wrote = search input_line; wrote_2 = search input_cache }

@@ -2,8 +2,8 @@
 use Rattle.cache_line.proofs.Cases.{told_count, told_count_cache, told_refused, told_nothing}
 use Rattle.cache_line.proofs.answers.tell_filed.Goals as goal
 
-pub returns-in-Count : goal.returns-in-Count
-returns-in-Count c = record { wrote = search told_count; wrote_2 = search told_count_cache }
+pub returns-in-Ok : goal.returns-in-Ok
+returns-in-Ok c = record { wrote = search told_count; wrote_2 = search told_count_cache }
 
-pub returns-in-Refused : goal.returns-in-Refused
-returns-in-Refused c = record { wrote = search told_refused; wrote_2 = search told_nothing }
+pub returns-in-Err : goal.returns-in-Err
+returns-in-Err c = record { wrote = search told_refused; wrote_2 = search told_nothing }

@@ -1,10 +1,6 @@
 -- `cache_line::lists::marks_of` meets its contract. Assumes nothing.
-use Prim.Native.Nat.{◌-◌}
 use Rattle.cache_line.proofs.Turns.{Marked}
 use Rattle.cache_line.proofs.lists.marks_of.Given as goal
 
 abbrev pub invariant-loop-i : goal.invariant-loop-i
 invariant-loop-i l = Marked l.s l.clock l.marks l.i
-
-abbrev pub decreases-loop-i : goal.decreases-loop-i
-decreases-loop-i l = 64 - l.i

@@ -1,10 +1,6 @@
 -- `cache_places::search::free_at` meets its contract. Assumes nothing.
-use Prim.Native.Nat.{◌-◌}
 use Rattle.cache_places.proofs.Turns.{Free}
 use Rattle.cache_places.proofs.search.free_at.Given as goal
 
 abbrev pub invariant-loop-i : goal.invariant-loop-i
 invariant-loop-i l = Free l.s l.clock l.i
-
-abbrev pub decreases-loop-i : goal.decreases-loop-i
-decreases-loop-i l = 64 - l.i

@@ -1,35 +1,17 @@
 -- `calendar::fitting::clock_fits` meets its contract: each return is a case law of FitLaws.
 -- Assumes nothing.
-use Rattle.calendar.proofs.FitLaws.{none_fits, clock_fit}
 use native.Mathlib.Omega.{arith}
+use Rattle.calendar.proofs.FitLaws.{none_fits, clock_fit}
 use Rattle.calendar.proofs.fitting.clock_fits.Goals as goal
 
 pub returns-then-c-ge100 : goal.returns-then-c-ge100
 returns-then-c-ge100 c = none_fits _ _ _ _ _ _ _ (λ f. omega arith)
 
-pub returns-then-y-ge100 : goal.returns-then-y-ge100
-returns-then-y-ge100 c = none_fits _ _ _ _ _ _ _ (λ f. omega arith)
-
 pub returns-then-year-lt1970 : goal.returns-then-year-lt1970
 returns-then-year-lt1970 c = none_fits _ _ _ _ _ _ _ (λ f. omega arith)
 
-pub returns-then-mo-lt1 : goal.returns-then-mo-lt1
-returns-then-mo-lt1 c = none_fits _ _ _ _ _ _ _ (λ f. omega arith)
-
-pub returns-then-mo-gt12 : goal.returns-then-mo-gt12
-returns-then-mo-gt12 c = none_fits _ _ _ _ _ _ _ (λ f. omega arith)
-
-pub returns-then-d-lt1 : goal.returns-then-d-lt1
-returns-then-d-lt1 c = none_fits _ _ _ _ _ _ _ (λ f. omega arith)
-
 pub returns-then-h-ge24 : goal.returns-then-h-ge24
 returns-then-h-ge24 c = none_fits _ _ _ _ _ _ _ (λ f. omega arith)
-
-pub returns-then-mi-ge60 : goal.returns-then-mi-ge60
-returns-then-mi-ge60 c = none_fits _ _ _ _ _ _ _ (λ f. omega arith)
-
-pub returns-then-se-ge60 : goal.returns-then-se-ge60
-returns-then-se-ge60 c = none_fits _ _ _ _ _ _ _ (λ f. omega arith)
 
 pub returns : goal.returns
 returns c = clock_fit _ _ _ _ _ _ _ (omega arith) (omega arith) (omega arith) (omega arith) (omega arith) (omega arith) (omega arith) (omega arith) _

@@ -7,14 +7,5 @@ use Rattle.calendar.proofs.fitting.pair.Goals as goal
 pub returns-then-a-lt48 : goal.returns-then-a-lt48
 returns-then-a-lt48 c = pair_none _ _ (λ d. omega arith)
 
-pub returns-then-a-gt57 : goal.returns-then-a-gt57
-returns-then-a-gt57 c = pair_none _ _ (λ d. omega arith)
-
-pub returns-then-b-lt48 : goal.returns-then-b-lt48
-returns-then-b-lt48 c = pair_none _ _ (λ d. omega arith)
-
-pub returns-then-b-gt57 : goal.returns-then-b-gt57
-returns-then-b-gt57 c = pair_none _ _ (λ d. omega arith)
-
 pub returns : goal.returns
 returns c = pair_number _ _ (omega arith)

@@ -7,18 +7,6 @@ use Rattle.calendar.proofs.plain.plain_clock.Goals as goal
 pub returns-then-years-lt55298 : goal.returns-then-years-lt55298
 returns-then-years-lt55298 c = none_is _ _ _ _ _ _ _ (λ k. omega arith)
 
-pub returns-then-years-gt63327 : goal.returns-then-years-gt63327
-returns-then-years-gt63327 c = none_is _ _ _ _ _ _ _ (λ k. omega arith)
-
-pub returns-then-mo-lt529 : goal.returns-then-mo-lt529
-returns-then-mo-lt529 c = none_is _ _ _ _ _ _ _ (λ k. omega arith)
-
-pub returns-then-mo-gt540 : goal.returns-then-mo-gt540
-returns-then-mo-gt540 c = none_is _ _ _ _ _ _ _ (λ k. omega arith)
-
-pub returns-then-d-lt529 : goal.returns-then-d-lt529
-returns-then-d-lt529 c = none_is _ _ _ _ _ _ _ (λ k. omega arith)
-
 pub returns-then-seconds-lt1933008 : goal.returns-then-seconds-lt1933008
 returns-then-seconds-lt1933008 c = none_is _ _ _ _ _ _ _ (λ k. omega arith)
 

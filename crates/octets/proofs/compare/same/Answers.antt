@@ -1,7 +1,8 @@
 -- What is left to show of the loop.
 use mathlib.Core.Path.{refl, sym}
-use Prim.Native.Nat.{◌-◌}
+use Prim.Native.Nat.{◌-◌, ◌≤◌}
 use native.Mathlib.Omega.{arith}
+use lib.ListN.{length}
 use Rattle.octets.specs.SameLaws.{same_short}
 use Rattle.octets.proofs.Eights.{eights_next, eights_differ, eights_end}
 use Rattle.octets.proofs.compare.same.Goals as goal
@@ -16,26 +17,8 @@ pub returns-then-eight : goal.returns-then-eight
 returns-then-eight c = search eights_differ
 
 pub loop-i-preserved : goal.loop-i-preserved
-loop-i-preserved c = let a = c.args in (
-  omega arith,
-  eights_next
-      a.a.now
-      a.b.now
-      c.loop-i.i
-      _
-      _
-      c.eight.ensures
-      c.eight-in-loop-i.ensures
-      c.type_inv.a
-      c.type_inv.b
-      c.if-a-b.false
-      c.if-eight.false
-      c.loop-i.invariant.1
-      (omega arith),
-)
-
-pub returns-then-eight-2 : goal.returns-then-eight-2
-returns-then-eight-2 c = search eights_differ
+loop-i-preserved c = let left : 8 ≤ length c.args.a.now - c.loop-i.i = omega arith in
+    (omega arith, search eights_next)
 
 pub returns : goal.returns
 returns c = search eights_end

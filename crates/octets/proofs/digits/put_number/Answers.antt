@@ -1,23 +1,12 @@
 -- What is left to show of the loop.
 use mathlib.Core.Path.{refl, sym, ap, ◌∙◌}
-use Prim.Native.Nat.{ℕ, ◌-◌, ◌/◌, ◌^◌}
+use Prim.Native.Nat.{ℕ, ◌/◌, ◌^◌}
 use native.Mathlib.Nat.{div-one, sub_self}
 use native.Mathlib.Omega.{arith}
 use lib.ListN.{length-set}
-use Rattle.octets.specs.NumberLaws.{octets_length}
-use Rattle.octets.specs.BufferLaws.{put_in_short, put_answer_short, put_answer_room}
+use Rattle.octets.specs.BufferLaws.{put_answer_room}
 use Rattle.octets.proofs.Turns.{written_all, written_left, written_next, written_end}
 use Rattle.octets.proofs.digits.put_number.Goals as goal
-
-pub returns-then-out-at : goal.returns-then-out-at
-returns-then-out-at c = let a = c.args in
-    let w = octets_length a.width a.n in
-    record { value = sym (put_answer_short _ _ _ (omega arith)); out_after = sym (put_in_short _ _ _ (omega arith)) }
-
-pub returns-then-out-at-2 : goal.returns-then-out-at-2
-returns-then-out-at-2 c = let a = c.args in
-    let w = octets_length a.width a.n in
-    record { value = sym (put_answer_short _ _ _ (omega arith)); out_after = sym (put_in_short _ _ _ (omega arith)) }
 
 pub loop-i-init : goal.loop-i-init
 loop-i-init c = let a = c.args in (

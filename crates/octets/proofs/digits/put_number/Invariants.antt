@@ -9,6 +9,3 @@ use Rattle.octets.proofs.digits.put_number.Given as goal
 
 abbrev pub invariant-loop-i : goal.invariant-loop-i
 invariant-loop-i l = (l.i ≤ l.width) × (length l.out ≡ length l.initial.out) × (l.left ≡ l.n / 256 ^ (l.width - l.i)) × (l.out ≡ written l.initial.out l.at l.width l.n l.i)
-
-abbrev pub decreases-loop-i : goal.decreases-loop-i
-decreases-loop-i l = l.i

@@ -16,8 +16,8 @@ returns-then-count-eq64 c = search (turn_over (counts Entry) 64)
 pub overflow_add-place : goal.overflow_add-place
 overflow_add-place c = search turn_place
 
-pub returns-in-Bad : goal.returns-in-Bad
-returns-in-Bad c = search (turn_bad (counts Entry) (some 64))
+pub returns-in-Err : goal.returns-in-Err
+returns-in-Err c = search (turn_bad (counts Entry) (some 64))
 
 pub overflow_add-at : goal.overflow_add-at
 overflow_add-at c = search turn_sum

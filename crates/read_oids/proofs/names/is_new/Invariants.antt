@@ -4,8 +4,5 @@
 use Rattle.read_oids.proofs.NameCases.{Looking}
 use Rattle.read_oids.proofs.names.is_new.Given as goal
 
-abbrev pub invariant-loop-left : goal.invariant-loop-left
-invariant-loop-left l = Looking l.s l.count l.oid l.left l.at
-
-abbrev pub decreases-loop-left : goal.decreases-loop-left
-decreases-loop-left l = l.left
+abbrev pub invariant-loop : goal.invariant-loop
+invariant-loop l = Looking l.s l.count l.oid l.counter l.at

@@ -17,17 +17,13 @@ pub returns-then-count-eq8 : goal.returns-then-count-eq8
 unfolding certificate_run free_sequence
 returns-then-count-eq8 c = search (turn_over (fits Tree) 8 free_sequence)
 
-pub read_tree_tagged-step-requires : goal.read_tree_tagged-step-requires
-unfolding certificate_run free_sequence
-read_tree_tagged-step-requires c = search rules
-
 pub overflow_add-place : goal.overflow_add-place
 unfolding certificate_run free_sequence
 overflow_add-place c = search (turn_place free_sequence)
 
-pub returns-in-Bad : goal.returns-in-Bad
+pub returns-in-Err : goal.returns-in-Err
 unfolding certificate_run free_sequence
-returns-in-Bad c = search (turn_bad (fits Tree) (some 8) free_sequence)
+returns-in-Err c = search (turn_bad (fits Tree) (some 8) free_sequence)
 
 pub overflow_add-at : goal.overflow_add-at
 unfolding certificate_run free_sequence

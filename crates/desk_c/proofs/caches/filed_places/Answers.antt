@@ -1,8 +1,0 @@
--- `desk_c::caches::filed_places` meets its contract. Assumes nothing.
-use Rattle.desk_c.proofs.caches.filed_places.Goals as goal
-
-pub returns-in-Count : goal.returns-in-Count
-returns-in-Count c = cc
-
-pub returns-in-Refused : goal.returns-in-Refused
-returns-in-Refused c = cc

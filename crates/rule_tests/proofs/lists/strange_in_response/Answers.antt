@@ -1,7 +1,0 @@
--- `rule_tests::lists::strange_in_response` meets its contract.
--- Assumes nothing.
-use Rattle.rule_tests.proofs.PlaceCases.{nothing_there}
-use Rattle.rule_tests.proofs.lists.strange_in_response.Goals as goal
-
-pub returns-then-part-eq0 : goal.returns-then-part-eq0
-returns-then-part-eq0 c = search nothing_there
