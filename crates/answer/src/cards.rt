@@ -24,8 +24,8 @@ fn each_zero(s: &[u8]) -> bool
     ensures { result ≡ all_zero s.now }
 {
     let mut zero = true;
-    for octet in s {
-        zero &= *octet == 0;
+    for i in 0..s.len() {
+        zero &= s[i] == 0;
     }
     zero
 }
@@ -76,7 +76,8 @@ pub fn field_fits(size: usize, field: &[u8]) -> bool
 pub fn card_fits(card: Card) -> bool
     ensures { result ≡ card_ok card }
 {
-    field_fits(card.size, &card.serial)
+    let Card { serial, size, .. } = card;
+    field_fits(size, &serial)
 }
 
 // Whether two cards are one: both hashes, the serial's field and its size.

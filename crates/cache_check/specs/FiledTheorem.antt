@@ -2,7 +2,7 @@
 -- no refusal may be filed, it says that answer, and asking for its card then gives what the check gives.
 -- filed_says, filed_as_the_check, filed_since; check_slip, never_17.
 -- `slip_of` is what slip_write::write_slip writes. Assumes nothing.
-use Rattle.std.specs.Prelude.{ℕ, ◌≤◌, ◌⊎◌, ◌≡◌, List, None, Ok, Err}
+use Rattle.std.specs.Prelude.{ℕ, ◌≤◌, ◌⊎◌, ◌≡◌, true, List, None, Ok, Err}
 use Rattle.std.proofs.Common.{⊎_elim, sym, ap, ◌∙◌}
 use Rattle.octets.specs.Octets.{Octets}
 use Rattle.octets.specs.SameLaws.{impossible}
@@ -19,6 +19,7 @@ use Rattle.cache_rules.specs.declared.Unfiled.TheVariants as unfiled
 use Rattle.cache_rules.specs.Place.{says_at, is_said, place_of, this_of, says_of, WholeCard}
 use Rattle.cache_rules.specs.Cache.{place_in, takes, filing_refusal, filed_of, buffer_of}
 use Rattle.cache_rules.specs.Has.{Has}
+use Rattle.cache_rules.specs.Numbers.{filed_number}
 use Rattle.cache_rules.proofs.RefusalLaws.{count_accepted}
 use Rattle.cache_rules.proofs.FilingLaws.{was_cache, takes_one}
 use Rattle.cache_rules.proofs.AfterLaws.{after_octets, place_new}
@@ -78,7 +79,9 @@ module _ (q : Question) (name r : List ℕ) (o : Octets r) (n : NoRefusal (answe
       read_written (answer_of q name r) (answer_fits q name r o) 20 (λ c. rw e w) ∙ accepted_placeless q name r n
 
   -- filing it never gives 17
-  pub never_17 : (clock : Clock) (s : List ℕ) → filed_of clock s (slip_of (answer_of q name r)) ≡ Err unfiled.Slip → ⊥
-  never_17 clock s e =
-      impossible
-      (sym ((refused_17 clock s (slip_of (answer_of q name r))).0 e).2 ∙ ap is_said check_slip ∙ no_refusal_said (answer_of q name r) n)
+  pub never_17 : (clock : Clock) (s : List ℕ)
+      → (filed_of clock s (slip_of (answer_of q name r)) ≡ Err unfiled.Slip → ⊥) × (filed_number (filed_of clock s (slip_of (answer_of q name r))) ≡ 17 → ⊥)
+  never_17 clock s =
+      let x = refused_17 clock s (slip_of (answer_of q name r)) in
+      let said : is_said (says_of (slip_of (answer_of q name r))) ≡ true = ap is_said check_slip ∙ no_refusal_said (answer_of q name r) n in
+      (λ e. impossible (sym (x.0.0 e).2 ∙ said), λ e. impossible (sym (x.1.0 e).2 ∙ said))

@@ -1,7 +1,7 @@
 // Filing a slip in the room's cache (document 02, C-11).
 //
-// The public function has no requirement: what can not be filed gets its number, and the buffer is as it
-// was.
+// No public function has a requirement: what can not be filed is refused, each refusal has its number, and the
+// buffer is as it was.
 #![tactic(auto)]
 
 ghost use Rattle.std.specs.Prelude.{◌≡◌, true, ◌*◌, ◌≤◌, ◌<◌, length, Ok};
@@ -10,6 +10,7 @@ ghost use Rattle.freshness.specs.Clock.{clock_ok};
 ghost use Rattle.cache_room.specs.Room.{count};
 ghost use Rattle.cache_rules.specs.Place.{card_at, is_said, place_of, says_of};
 ghost use Rattle.cache_rules.specs.Cache.{is_cache, filed_of, buffer_of};
+ghost use Rattle.cache_rules.specs.Numbers.{unfiled_number};
 ghost use Rattle.cache_places.specs.Evenly.{evenly};
 ghost use Rattle.cache_file.specs.Put.{held_filed, buffer_held, new_filed, new_in};
 
@@ -101,4 +102,16 @@ pub fn file(s: &mut [u8], slip: &[u8], clock: Clock) -> Filed
         return Err(Unfiled::Slip);
     }
     put_slip(s, slip, clock)
+}
+
+// The number of a refusal.
+pub fn number_of(unfiled: Unfiled) -> u8
+    ensures { result ≡ unfiled_number unfiled }
+{
+    match unfiled {
+        Unfiled::NoCache => 19,
+        Unfiled::Clock => 1,
+        Unfiled::Slip => 17,
+        Unfiled::Full => 20,
+    }
 }

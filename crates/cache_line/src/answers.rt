@@ -50,7 +50,7 @@ fn tell_filed(filed: Filed, copy: &[u8], line: &mut [u8], cache: &mut [u8]) -> R
             cache: says::hand(copy, cache),
         },
         Err(unfiled) => Reply {
-            line: says::say_number(unfiled.number() as u64, line),
+            line: says::say_number(cache_file::number_of(unfiled) as u64, line),
             cache: 0,
         },
     }

@@ -11,6 +11,7 @@ use Rattle.slip.specs.Slip.{slip_of}
 use Rattle.freshness.specs.declared.Clock.{Clock}
 use Rattle.cache_rules.specs.declared.Unfiled.TheVariants as unfiled
 use Rattle.cache_rules.specs.Cache.{is_cache, filed_of, buffer_of, told, not_held, ask_of}
+use Rattle.cache_rules.specs.Numbers.{filed_number}
 use Rattle.cache_rules.specs.Examples.{cache_computes}
 
 -- a card with hashes all of one octet and all 22, serial 05
@@ -78,17 +79,17 @@ unfolding cache_computes
 tolerated = refl
 
 -- the refusals in their order: a short buffer and a bad clock and slip; a bad clock and slip; a refusal's slip
-short : filed_of (clock 0 3601) (replicate 5567 0) [] ≡ Err unfiled.NoCache
+short : (filed_of (clock 0 3601) (replicate 5567 0) [] ≡ Err unfiled.NoCache) × (filed_number (filed_of (clock 0 3601) (replicate 5567 0) []) ≡ 19)
 unfolding cache_computes
-short = refl
+short = (refl, refl)
 
-bad_clock : filed_of (clock 0 3601) empty [] ≡ Err unfiled.Clock
+bad_clock : (filed_of (clock 0 3601) empty [] ≡ Err unfiled.Clock) × (filed_number (filed_of (clock 0 3601) empty []) ≡ 1)
 unfolding cache_computes
-bad_clock = refl
+bad_clock = (refl, refl)
 
-refusal : filed_of (clock 0 0) empty (4 ∷ 4 ∷ 6 ∷ []) ≡ Err unfiled.Slip
+refusal : (filed_of (clock 0 0) empty (4 ∷ 4 ∷ 6 ∷ []) ≡ Err unfiled.Slip) × (filed_number (filed_of (clock 0 0) empty (4 ∷ 4 ∷ 6 ∷ [])) ≡ 17)
 unfolding cache_computes
-refusal = refl
+refusal = (refl, refl)
 
 -- ---- no cache: a card twice, kind 04, an octet behind a slip
 
@@ -138,9 +139,9 @@ fill : ℕ → List ℕ
 fill zero = []
 fill (suc n) = good (suc n) 100 200 ++ replicate 9 0 ++ fill n
 
-no_place : filed_of (clock 200 0) (fill 64) (good 0x77 100 300) ≡ Err unfiled.Full
+no_place : (filed_of (clock 200 0) (fill 64) (good 0x77 100 300) ≡ Err unfiled.Full) × (filed_number (filed_of (clock 200 0) (fill 64) (good 0x77 100 300)) ≡ 20)
 unfolding cache_computes fill
-no_place = refl
+no_place = (refl, refl)
 
 -- a card that is held has its place, and one second later any card has
 own_place : filed_of (clock 200 0) (fill 64) (good 7 100 300) ≡ Ok 64

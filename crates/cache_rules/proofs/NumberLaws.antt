@@ -1,5 +1,5 @@
 -- Laws of the numbers: what a filing and an ask answer, told from its number.
--- unfiled_some, filed_number_lem; asked_number_lem.
+-- unfiled_some, number_told, filed_number_lem; asked_number_lem.
 -- The definitions are in Numbers. Assumes nothing.
 use Rattle.std.specs.Prelude.{ℕ, ◌<◌, ◌↔◌, ◌≡◌, refl, true, List, Ok, Err}
 use Rattle.std.proofs.Common.{arith, sym, ap, ◌∙◌}
@@ -29,6 +29,30 @@ unfiled_some unfiled.NoCache = omega arith
 unfiled_some unfiled.Clock = omega arith
 unfiled_some unfiled.Slip = omega arith
 unfiled_some unfiled.Full = omega arith
+
+-- no two refusals have one number
+unfiled_told : (x e : Unfiled) → unfiled_number x ≡ unfiled_number e → x ≡ e
+unfiled_told unfiled.NoCache unfiled.NoCache q = refl
+unfiled_told unfiled.NoCache unfiled.Clock q = absurd (omega arith)
+unfiled_told unfiled.NoCache unfiled.Slip q = absurd (omega arith)
+unfiled_told unfiled.NoCache unfiled.Full q = absurd (omega arith)
+unfiled_told unfiled.Clock unfiled.NoCache q = absurd (omega arith)
+unfiled_told unfiled.Clock unfiled.Clock q = refl
+unfiled_told unfiled.Clock unfiled.Slip q = absurd (omega arith)
+unfiled_told unfiled.Clock unfiled.Full q = absurd (omega arith)
+unfiled_told unfiled.Slip unfiled.NoCache q = absurd (omega arith)
+unfiled_told unfiled.Slip unfiled.Clock q = absurd (omega arith)
+unfiled_told unfiled.Slip unfiled.Slip q = refl
+unfiled_told unfiled.Slip unfiled.Full q = absurd (omega arith)
+unfiled_told unfiled.Full unfiled.NoCache q = absurd (omega arith)
+unfiled_told unfiled.Full unfiled.Clock q = absurd (omega arith)
+unfiled_told unfiled.Full unfiled.Slip q = absurd (omega arith)
+unfiled_told unfiled.Full unfiled.Full q = refl
+
+-- a filing has the number of a refusal exactly if it is refused for that reason
+pub number_told : (f : Filed) (e : Unfiled) → filed_number f ≡ unfiled_number e ↔ f ≡ Err e
+number_told (Ok n) e = (λ q. absurd (omega (arith, unfiled_some e)), λ h. absurd (cc h))
+number_told (Err x) e = (λ q. ap Err (unfiled_told x e q), λ h. ap filed_number h)
 
 -- 0 exactly if it is accepted, another number exactly if it is refused with that number
 pub filed_number_lem : (clock : Clock) (s t : List ℕ)

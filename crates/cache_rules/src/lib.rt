@@ -1,10 +1,6 @@
 // The cache of a room (document 02, C-11): what a cache is, what filing a slip does to it, and what asking
-// for a card gives. Definitions are in specs/, laws and theorems in proofs/. The one function here gives the
-// number of a refusal.
+// for a card gives. Definitions are in specs/, laws and theorems in proofs/, and there is no function here.
 #![tactic(auto)]
-
-ghost use Rattle.std.specs.Prelude.{◌≡◌};
-ghost use Rattle.cache_rules.specs.Numbers.{unfiled_number};
 
 use answer::{Card, Verdict};
 
@@ -24,20 +20,6 @@ pub enum Unfiled {
     Slip,
     // The slip's card has no place, and none is empty or stale (20).
     Full,
-}
-
-impl Unfiled {
-    // The refusal's number.
-    pub fn number(self) -> u8
-        ensures { result ≡ unfiled_number self }
-    {
-        match self {
-            Unfiled::NoCache => 19,
-            Unfiled::Clock => 1,
-            Unfiled::Slip => 17,
-            Unfiled::Full => 20,
-        }
-    }
 }
 
 // What a filing answers: how many places are then not empty, or why it is refused.

@@ -1,10 +1,9 @@
 -- Settled contracts of the room's cache.
 -- One theorem for each public function, CRATE_FUNCTION_settled, crate by crate:
--- cache_rules, cache_place, cache_places, cache_file, cache_ask, cache_line (_buffer of the line, _cache of the cache).
+-- cache_place, cache_places, cache_file, cache_ask, cache_line (_buffer of the line, _cache of the cache).
 -- Of a function that writes, CRATE_FUNCTION_buffer says the same of the buffer. Of a returned part, its octets are said.
 -- What it is to be settled is in Settled; the functions for C are in SettledC. Assumes nothing.
 use Rattle.contracts.specs.Settled.{Settled, settled, Settles, settles}
-use Rattle.cache_rules.proofs.Unfiled.number.Reads as cache_rules_number
 use Rattle.cache_place.proofs.place_fits.Reads as cache_place_place_fits
 use Rattle.cache_place.proofs.slip_fits.Reads as cache_place_slip_fits
 use Rattle.cache_place.proofs.slip_at.Reads as cache_place_slip_at
@@ -18,13 +17,10 @@ use Rattle.cache_places.proofs.held_at.Reads as cache_places_held_at
 use Rattle.cache_places.proofs.free_at.Reads as cache_places_free_at
 use Rattle.cache_places.proofs.count.Reads as cache_places_count
 use Rattle.cache_file.proofs.file.Reads as cache_file_file
+use Rattle.cache_file.proofs.number_of.Reads as cache_file_number_of
 use Rattle.cache_ask.proofs.find.Reads as cache_ask_find
 use Rattle.cache_ask.proofs.ask.Reads as cache_ask_ask
 use Rattle.cache_line.proofs.answer_for.Reads as cache_line_answer_for
-
--- ── crate cache_rules ──
-pub cache_rules_number_settled : Settled cache_rules_number.Asked cache_rules_number.Learnt
-cache_rules_number_settled = settled _ _ _ (λ k a. tt) (λ k a z e p. p)
 
 -- ── crate cache_place ──
 pub cache_place_place_fits_settled : Settled cache_place_place_fits.Asked cache_place_place_fits.Learnt
@@ -70,6 +66,9 @@ cache_file_file_settled = settled _ _ _ (λ k a. tt) (λ k a z e p. p.0)
 
 pub cache_file_file_buffer : Settles cache_file_file.Asked cache_file_file.Learnt (λ k z e. e.0.now)
 cache_file_file_buffer = settles _ _ (λ k z e. e.0.now) _ (λ k a. tt) (λ k a z e p. p.1)
+
+pub cache_file_number_of_settled : Settled cache_file_number_of.Asked cache_file_number_of.Learnt
+cache_file_number_of_settled = settled _ _ _ (λ k a. tt) (λ k a z e p. p)
 
 -- ── crate cache_ask ──
 pub cache_ask_find_settled : Settled cache_ask_find.Asked cache_ask_find.Learnt

@@ -1,7 +1,6 @@
 -- Settled contracts of requests, slips and the desk.
 -- One theorem for each public function, CRATE_FUNCTION_settled, crate by crate:
--- fields, read_errors, request, slip, slip_write, slip_read, hexadecimal, desk_intake, desk_case, desk_line. The octets that
--- `desk_intake::read_all` reads come from outside, so that it has none.
+-- fields, read_errors, request, slip, slip_write, slip_read, hexadecimal, desk_intake, desk_case, desk_line.
 -- Of a function that writes, CRATE_FUNCTION_buffer says the same of the buffer. Of a returned part, its octets are said.
 -- What it is to be settled is in Settled. Assumes nothing.
 use Rattle.contracts.specs.Settled.{Settled, settled, Settles, settles}

@@ -16,7 +16,7 @@ fn filed_number(filed: Filed) -> usize
 {
     match filed {
         Ok(_) => 0,
-        Err(unfiled) => unfiled.number() as usize,
+        Err(unfiled) => cache_file::number_of(unfiled) as usize,
     }
 }
 

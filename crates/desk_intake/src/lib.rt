@@ -1,16 +1,14 @@
 // What a program keeps of its input: the beginning of it that there is room for, however the input
 // comes in chunks. In a room of ROOM octets that is the input itself, or a beginning that is longer than
 // a question and the longest response, and the desk's answer to it is the answer to the whole input
-// (specs/, SameLineLaws). `read_all` reads what it is lent to its end; which input that is, its caller says.
+// (specs/, SameLineLaws). No input or output of its own.
 //
 // No function here has a requirement: a place past the space is held to its end.
 #![tactic(auto)]
 
 mod keeping; // one chunk more
-mod reading; // an input read to its end
 
 pub use keeping::keep;
-pub use reading::read_all;
 
 // What came of reading: how many octets are kept in the space, and whether there may be more.
 #[derive(Clone, Copy)]

@@ -13,9 +13,10 @@ fn say(rt: &impl Print, text: &str) -> io::Result<()> {
 fn say_time(rt: &impl Print, name: &str, text: &[u8]) -> io::Result<()> {
     say(rt, name)?;
     match calendar::read_time(text) {
-        Some(seconds) => println!(rt; "{seconds}"),
-        None => println!(rt; "no time"),
+        Some(seconds) => print!(rt; "{seconds}")?,
+        None => say(rt, "no time")?,
     }
+    say(rt, "\n")
 }
 
 // The octets of a length, as a header of tag 30 hex has them.
@@ -38,21 +39,33 @@ fn say_length(rt: &impl Print, name: &str, len: usize) -> io::Result<()> {
 fn say_header(rt: &impl Print, name: &str, part: &[u8]) -> io::Result<()> {
     say(rt, name)?;
     match element::read_header(part) {
-        Ok(Header { tag, start, len }) => println!(rt; "{tag:02x} content at {start}, size {len}"),
-        Err(misfit) => println!(rt; "refused at {}", misfit.place),
+        Ok(Header { tag, start, len }) => {
+            print!(rt; "{tag:02x}")?;
+            say(rt, " content at ")?;
+            print!(rt; "{start}")?;
+            say(rt, ", size ")?;
+            print!(rt; "{len}")?;
+        }
+        Err(misfit) => {
+            say(rt, "refused at ")?;
+            print!(rt; "{}", misfit.place)?;
+        }
     }
+    say(rt, "\n")
 }
 
 // The number of a serial, or that it is refused.
 fn say_serial(rt: &impl Print, name: &str, serial: &[u8]) -> io::Result<()> {
     say(rt, name)?;
-    if !content::serial_fits(serial) {
-        return println!(rt; "refused");
+    if content::serial_fits(serial) {
+        match octets::number_at(serial, 0, serial.len()) {
+            Some(number) => print!(rt; "{number}")?,
+            None => say(rt, "more than eight octets")?,
+        }
+    } else {
+        say(rt, "refused")?;
     }
-    match octets::number_at(serial, 0, serial.len()) {
-        Some(number) => println!(rt; "{number}"),
-        None => println!(rt; "more than eight octets"),
-    }
+    say(rt, "\n")
 }
 
 fn main(rt: HostRuntime) -> io::Result<()> {

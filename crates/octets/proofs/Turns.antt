@@ -1,34 +1,64 @@
 -- What one turn of each loop does, on plain values. Each law's premises are what the code knows there.
--- put_all; number_room, number_less, number_next, number_end;
+-- same_next, same_stop, same_end; put_next, put_end; number_room, number_less, number_next, number_end;
 -- written, written_all, written_left, written_next, written_end.
 -- Assumes nothing.
 use Prim.Native.Nat.{ℕ, zero, suc, ◌+◌, ◌-◌, ◌*◌, ◌/◌, ◌%◌, ◌^◌, ◌≤◌, ◌<◌}
-use native.Mathlib.Nat.{not-suc-le-zero, sub-zero, le_of_lt, le-add_right, add-zero, sub_self, pow-le-pow_right, pow-suc, div-div-eq-div-mul}
+use native.Mathlib.Nat.{not-suc-le-zero, sub-zero, le_of_lt, le_antisymm, add-zero, sub_self, pow-le-pow_right, pow-suc, div-div-eq-div-mul}
 use native.Mathlib.Numerals.{add-one}
 use native.Mathlib.Omega.{arith}
 use mathlib.Core.Path.{◌≡◌, sym, ap, subst, ◌∙◌}
-use mathlib.Core.List.{List, ◌∷◌, ◌++◌}
+use mathlib.Core.Bool.{true, false, cond}
+use mathlib.Core.List.{List, ◌∷◌, ◌++◌, append_assoc}
 use lib.Arith.{digits_lt}
-use lib.Dec.{lit<}
-use lib.ListN.{length, get_or, set, take, drop, take-append-drop}
-use lib.Seq.{take-suc, take_all, append_snoc, set_at, length-take-le}
-use borrow.Rule.Slice.PartMut.{put_mid, Post-is}
+use lib.Dec.{eqb, lit<}
+use lib.ListN.{length, get_or, set, take, drop, drop_of_length-le, take-append-drop}
+use lib.Seq.{drop-cons, take-suc, take_all, paste, paste-suc, take-length, append_snoc, set_at, length-take-le}
+use borrow.Author.Tests.{eq-eqb, ne_eqb}
 use Rattle.std.specs.Prelude.{Some}
 use Rattle.octets.specs.LentLaws.{part_is}
 use Rattle.octets.specs.Number.{value_of, octets_of, number_at}
 use Rattle.octets.specs.NumberLaws.{value_snoc, octets_length, number_inside}
+use Rattle.octets.specs.Same.{same_of}
 use Rattle.octets.specs.Buffer.{put_in}
 use Rattle.octets.specs.BufferLaws.{put_in_room}
 
--- ---- octets are copied
+-- ---- two lists are compared: the answer is that of the rest
 
--- the part at a place gives way to octets as many as it has
-pub put_all : (out : List ℕ) (at : ℕ) (src new : List ℕ) → at ≤ length out → length src ≤ length out - at → new ≡ src
-    → put_mid at (at + length src - at) out new ≡ put_in out at src
-put_all out at src new l r e =
-    ap (λ (t : List ℕ). put_mid at (at + length src - at) out t) e
-    ∙ ap (λ (t : List ℕ). take at out ++ (src ++ t)) (Post-is at (at + length src) out (le-add_right at (length src)))
-    ∙ sym (put_in_room out at src (omega arith))
+module _ (a b : List ℕ) (q : length a ≡ length b) (i : ℕ) (p : same_of a b ≡ same_of (drop i a) (drop i b)) where
+  step : i < length a → same_of a b ≡ cond (eqb (get_or a i 0) (get_or b i 0)) (same_of (drop (i + 1) a) (drop (i + 1) b)) false
+  unfolding same_of
+  step h =
+      let g : i < length b = omega arith in
+      p ∙ rw (add-one i, drop-cons a i 0 h, drop-cons b i 0 g)
+
+  -- equal here
+  pub same_next : i < length a → get_or a i 0 ≡ get_or b i 0 → same_of a b ≡ same_of (drop (i + 1) a) (drop (i + 1) b)
+  same_next h e = step h ∙ rw (eq-eqb (get_or a i 0) (get_or b i 0) e)
+
+  -- another here
+  pub same_stop : i < length a → (get_or a i 0 ≡ get_or b i 0 → ⊥) → false ≡ same_of a b
+  same_stop h e = sym (step h ∙ rw (ne_eqb (get_or a i 0) (get_or b i 0) e))
+
+  -- at the end of both
+  pub same_end : length a ≤ i → true ≡ same_of a b
+  unfolding same_of
+  same_end h =
+      let g : length b ≤ i = omega arith in
+      sym (p ∙ rw (drop_of_length-le a h, drop_of_length-le b g))
+
+-- ---- octets are copied: i of them so far
+
+module _ (out : List ℕ) (at : ℕ) (src : List ℕ) (l : at ≤ length out) (r : length src ≤ length out - at) (o : List ℕ) (i : ℕ) (p : o ≡ paste out at src i) where
+  pub put_next : i < length src → set o (at + i) (get_or src i 0) ≡ paste out at src (i + 1)
+  put_next h = rw (p, add-one i) (paste-suc out at src i 0 (omega arith) h)
+
+  pub put_end : i ≤ length src → length src ≤ i → o ≡ put_in out at src
+  put_end h g =
+      p
+      ∙ ap (λ (k : ℕ). paste out at src k) (le_antisymm h g)
+      ∙ ap (λ (t : List ℕ). take at out ++ t ++ drop (at + length src) out) (take-length src)
+      ∙ append_assoc (take at out) src (drop (at + length src) out)
+      ∙ sym (put_in_room out at src (omega arith))
 
 -- ---- a number is read: n is that of the first i octets
 

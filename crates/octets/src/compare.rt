@@ -22,9 +22,22 @@ fn eight(s: &[u8], at: usize) -> u64
     )
 }
 
+// The same one by one: of two lists that are as long.
+#[tactic(auto, using(crate::proofs::Turns::same_stop, crate::proofs::Turns::same_next, crate::proofs::Turns::same_end))]
+fn same_few(a: &[u8], b: &[u8]) -> bool
+    requires { length a.now ≡ length b.now }
+    ensures { result ≡ same_of a.now b.now }
+{
+    for i in 0..a.len() {
+        if a[i] != b[i] {
+            return false;
+        }
+    }
+    true
+}
+
 // Whether two lists are as long and equal one by one: by eights, the last of which may begin in the one
 // before it.
-#[tactic(auto, using(crate::proofs::Eights::same_few))]
 pub fn same(a: &[u8], b: &[u8]) -> bool
     ensures { result ≡ same_of a.now b.now }
 {
@@ -32,7 +45,7 @@ pub fn same(a: &[u8], b: &[u8]) -> bool
         return false;
     }
     if a.len() < 8 {
-        return a == b;
+        return same_few(a, b);
     }
     let last = a.len() - 8;
     let mut i: usize = 0;

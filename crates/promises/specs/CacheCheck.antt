@@ -22,6 +22,7 @@ use Rattle.cache_rules.specs.declared.Unfiled.TheVariants as unfiled
 use Rattle.cache_rules.specs.Place.{says_at, this_of, says_of, WholeCard}
 use Rattle.cache_rules.specs.Cache.{place_in, is_cache, filed_of, buffer_of, told, ask_of}
 use Rattle.cache_rules.specs.Has.{Has}
+use Rattle.cache_rules.specs.Numbers.{filed_number}
 use Rattle.cache_rules.specs.Many.{after_all, AllOctets, ForOthers}
 use Rattle.cache_check.specs.Later.{asked_at, AsTheCheck, TakenStale}
 use Rattle.cache_check.specs.CheckTheorem as check
@@ -74,7 +75,8 @@ module _ (q : Question) (name r : List ℕ) (v : NoRefusal (answer_of q name r).
     pub written_says : says_of (slip_of (answer_of q name r)) ≡ answer_of q name r
     written_says = filing.check_slip q name r o v w
 
-    pub never_17 : (clock : Clock) (s : List ℕ) → filed_of clock s (slip_of (answer_of q name r)) ≡ Err unfiled.Slip → ⊥
+    pub never_17 : (clock : Clock) (s : List ℕ)
+        → (filed_of clock s (slip_of (answer_of q name r)) ≡ Err unfiled.Slip → ⊥) × (filed_number (filed_of clock s (slip_of (answer_of q name r))) ≡ 17 → ⊥)
     never_17 = filing.never_17 q name r o v w
 
 -- ── the slip that the desk itself wrote for the octets of a question and a response ──

@@ -24,15 +24,17 @@ module _ (clock : Clock) (s t : List ℕ) where
   unchanged = refusal.unchanged clock s t
 
   -- 19 exactly if the buffer is no cache
-  pub refused_19 : filed_of clock s t ≡ Err unfiled.NoCache ↔ is_cache s ≡ false
+  pub refused_19 : (filed_of clock s t ≡ Err unfiled.NoCache ↔ is_cache s ≡ false) × (filed_number (filed_of clock s t) ≡ 19 ↔ is_cache s ≡ false)
   refused_19 = refusal.refused_19 clock s t
 
   -- 1 exactly if it is one, and the time or the tolerance is out of range
-  pub refused_1 : filed_of clock s t ≡ Err unfiled.Clock ↔ (is_cache s ≡ true) × (clock_ok clock ≡ false)
+  pub refused_1 : (filed_of clock s t ≡ Err unfiled.Clock ↔ (is_cache s ≡ true) × (clock_ok clock ≡ false))
+      × (filed_number (filed_of clock s t) ≡ 1 ↔ (is_cache s ≡ true) × (clock_ok clock ≡ false))
   refused_1 = refusal.refused_1 clock s t
 
   -- 17 exactly if these pass, and the octets are no slip of kind 01, 02 or 03 that keeps the slip rules
-  pub refused_17 : filed_of clock s t ≡ Err unfiled.Slip ↔ (is_cache s ≡ true) × (clock_ok clock ≡ true) × (is_said (says_of t) ≡ false)
+  pub refused_17 : (filed_of clock s t ≡ Err unfiled.Slip ↔ (is_cache s ≡ true) × (clock_ok clock ≡ true) × (is_said (says_of t) ≡ false))
+      × (filed_number (filed_of clock s t) ≡ 17 ↔ (is_cache s ≡ true) × (clock_ok clock ≡ true) × (is_said (says_of t) ≡ false))
   refused_17 = refusal.refused_17 clock s t
 
   -- the number: 0 exactly if it is accepted, any other exactly if that is the refusal
@@ -42,7 +44,8 @@ module _ (clock : Clock) (s t : List ℕ) where
 
   module _ (o : Octets t) where
     -- 20 exactly if these pass, no place has the slip's card, and none is empty or stale
-    pub refused_20 : filed_of clock s t ≡ Err unfiled.Full ↔ (is_cache s ≡ true) × (clock_ok clock ≡ true) × (is_said (says_of t) ≡ true) × Full clock s (says_of t).card
+    pub refused_20 : (filed_of clock s t ≡ Err unfiled.Full ↔ (is_cache s ≡ true) × (clock_ok clock ≡ true) × (is_said (says_of t) ≡ true) × Full clock s (says_of t).card)
+        × (filed_number (filed_of clock s t) ≡ 20 ↔ (is_cache s ≡ true) × (clock_ok clock ≡ true) × (is_said (says_of t) ≡ true) × Full clock s (says_of t).card)
     refused_20 = refusal.refused_20 clock s t o
 
     -- accepted exactly if none of this is so
@@ -52,10 +55,10 @@ module _ (clock : Clock) (s t : List ℕ) where
 
     -- nothing else is given than a count, 19, 1, 17 and 20
     pub always_answered : ((n : ℕ) × (filed_of clock s t ≡ Ok n))
-        ⊎ (filed_of clock s t ≡ Err unfiled.NoCache)
-        ⊎ (filed_of clock s t ≡ Err unfiled.Clock)
-        ⊎ (filed_of clock s t ≡ Err unfiled.Slip)
-        ⊎ (filed_of clock s t ≡ Err unfiled.Full)
+        ⊎ ((filed_of clock s t ≡ Err unfiled.NoCache) × (filed_number (filed_of clock s t) ≡ 19))
+        ⊎ ((filed_of clock s t ≡ Err unfiled.Clock) × (filed_number (filed_of clock s t) ≡ 1))
+        ⊎ ((filed_of clock s t ≡ Err unfiled.Slip) × (filed_number (filed_of clock s t) ≡ 17))
+        ⊎ ((filed_of clock s t ≡ Err unfiled.Full) × (filed_number (filed_of clock s t) ≡ 20))
     always_answered = refusal.filing_answers clock s t o
 
 -- ── the number of each case: a refusal's own, 19, 1, 17 or 20; 0 where the filing is accepted, and then the count beside it ──

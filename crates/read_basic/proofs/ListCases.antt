@@ -1,13 +1,11 @@
 -- The cases of the reader of the entries' sequence and maybe extensions.
 -- Assumes nothing.
-use Prim.Native.Nat.{ℕ, ◌+◌, ◌-◌, ◌^◌, ◌≤◌, ◌<◌}
+use Prim.Native.Nat.{ℕ, ◌+◌, ◌-◌, ◌≤◌}
 use native.Mathlib.Omega.{arith}
-use mathlib.Core.Path.{◌≡◌, refl, sym, ap, ◌∙◌}
+use mathlib.Core.Path.{◌≡◌, refl, ap, ◌∙◌}
 use mathlib.Core.List.{List}
 use Rattle.std.specs.Prelude.{Result, Ok, Err}
 use lib.ListN.{length, take, drop, length-drop}
-use mir.Syntax.{w64}
-use mir.Val.{Fits}
 use Rattle.octets.specs.OctetsLaws.{octets_take, octets_drop}
 use Rattle.octets.specs.LentLaws.{Known, known_octets, rest_is, part_is, part_length}
 use Rattle.element.specs.Header.{header_of}

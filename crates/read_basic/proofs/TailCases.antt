@@ -1,8 +1,8 @@
 -- The cases of the readers of what follows the signed part.
 -- Assumes nothing.
-use Prim.Native.Nat.{ℕ, ◌+◌, ◌-◌, ◌^◌, ◌≤◌, ◌<◌}
+use Prim.Native.Nat.{ℕ, ◌+◌, ◌-◌, ◌≤◌}
 use native.Mathlib.Omega.{arith}
-use mathlib.Core.Path.{◌≡◌, refl, sym, ◌∙◌}
+use mathlib.Core.Path.{◌≡◌, refl}
 use mathlib.Core.List.{List}
 use Rattle.std.specs.Prelude.{cond, Ok, Err}
 use lib.ListN.{length, take, drop, length-append, length-drop}
@@ -24,7 +24,7 @@ use Rattle.read_content.specs.SpotLaws.{spot_reads, spot_wrong}
 use Rattle.read_sequence.specs.Judged.{filled_by}
 use Rattle.read_sequence.specs.ViewLaws.{fit_optional}
 use Rattle.read_basic.specs.Views.{tail, certificates_on, signature_on, algorithm_on, signature_spot, tail_of}
-use Rattle.read_basic.specs.MoreLaws.{More, more_wrong, more_end, more_place, more_broken, more_start, more_moved}
+use Rattle.read_basic.specs.MoreReads.{MoreRead, reads_wrong, reads_end, reads_place, reads_broken, reads_start, reads_moved}
 use Rattle.read_basic.specs.declared.Tail.{Tail}
 
 -- ── maybe certificates, by the first octet ──
@@ -74,7 +74,7 @@ module _ (s : List ℕ) where
 abbrev pub moved : ℕ → Span → Tail
 moved n v = tail n (n + v.start) v.len
 
-pub algorithm_more : More algorithm_identifier signature_on signature_spot (λ s. tail_of (algorithm_on.dec s)) moved (λ v. v.start)
+pub algorithm_more : MoreRead algorithm_identifier signature_on signature_spot (λ s. tail_of (algorithm_on.dec s)) moved (λ v. v.start)
 unfolding algorithm_on signature_on signature_spot tail_of
 algorithm_more = record {
   both = tail_of;
@@ -88,24 +88,24 @@ algorithm_more = record {
 
 module _ (s : List ℕ) where
   pub algorithm_err : (p : Misfit) → step_of (algorithm_identifier.dec s) ≡ Err p → tail_of (algorithm_on.dec s) ≡ Err p
-  algorithm_err = more_wrong algorithm_more s
+  algorithm_err = reads_wrong algorithm_more s
 
   module _ (n : ℕ) (f : step_of (algorithm_identifier.dec s) ≡ Ok n) where
     pub algorithm_end : n ≤ length s
-    algorithm_end = more_end algorithm_more s n f
+    algorithm_end = reads_end algorithm_more s n f
 
     module _ (known : Known s) where
       pub algorithm_place : (p : Misfit) → signature_spot (signature_on.dec (take (length s - n) (drop n s))) ≡ Err p → n + p.place ≤ length s
-      algorithm_place = more_place algorithm_more s n f known
+      algorithm_place = reads_place algorithm_more s n f known
 
       pub algorithm_broken : (p : Misfit) → signature_spot (signature_on.dec (take (length s - n) (drop n s))) ≡ Err p → tail_of (algorithm_on.dec s) ≡ Err (misfit (n + p.place))
-      algorithm_broken = more_broken algorithm_more s n f known
+      algorithm_broken = reads_broken algorithm_more s n f known
 
       pub algorithm_start : (k : Span) → signature_spot (signature_on.dec (take (length s - n) (drop n s))) ≡ Ok k → n + k.start ≤ length s
-      algorithm_start = more_start algorithm_more s n f known
+      algorithm_start = reads_start algorithm_more s n f known
 
       pub algorithm_found : (k : Span) → signature_spot (signature_on.dec (take (length s - n) (drop n s))) ≡ Ok k → tail_of (algorithm_on.dec s) ≡ Ok (tail n (n + k.start) k.len)
-      algorithm_found = more_moved algorithm_more s n f known
+      algorithm_found = reads_moved algorithm_more s n f known
 
 pub ruleset signature_cases = (signature_err, signature_end, certificates_place, certificates_broken, signature_found)
 

@@ -27,7 +27,8 @@ use Rattle.layout.specs.Names.{signed_from}
 use Rattle.layout.proofs.Format.{version, signed_fields, signed_body}
 use Rattle.read_content.specs.ExpectLaws.{never}
 use Rattle.read_basic.specs.Views.{inside, InsideRead, inside_at, inside_fields, version_step, inside_signed}
-use Rattle.read_basic.specs.MoreLaws.{place_inside, moved_read, place_read}
+use Rattle.read_basic.specs.MoreLaws.{place_inside}
+use Rattle.read_basic.specs.MoreReads.{moved_read, place_read}
 use Rattle.read_basic.specs.declared.Inside.{Inside}
 
 -- the place that is wrong in the fields

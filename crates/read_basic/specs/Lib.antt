@@ -1,2 +1,3 @@
 pub mod Views
 pub mod MoreLaws
+pub mod MoreReads

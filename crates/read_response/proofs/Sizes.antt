@@ -23,7 +23,8 @@ use Rattle.read_response.specs.Parts.{parts_from, responses_size, entries_size, 
 use Rattle.read_response.specs.Placed.{front_at, tailed}
 use Rattle.read_basic.specs.Views.{inside, InsideRead, TailRead, version_size, responder_size, produced_size, inside_at, inside_signed, signature_on, algorithm_on, tail_of, entries_place, entries_length}
 use Rattle.read_basic.specs.declared.Inside.{Inside}
-use Rattle.read_basic.specs.MoreLaws.{place_inside, place_read}
+use Rattle.read_basic.specs.MoreLaws.{place_inside}
+use Rattle.read_basic.specs.MoreReads.{place_read}
 
 -- ── sizes of forms ──
 entries_short : (l : List Entry) → entries_length l ≤ length (responses.enc l)

@@ -30,11 +30,16 @@ pub fn write_request(card: Card, out: &mut [u8]) -> Output
     if !answer::card_fits(card) {
         return Output::Refused(1);
     }
-    let n = 67 + card.size;
+    let Card {
+        name,
+        key,
+        serial,
+        size,
+    } = card;
+    let n = 67 + size;
     if out.len() < n {
         return Output::Refused(18);
     }
-    let serial = &card.serial[..card.size];
-    put_request(out, &card.name, &card.key, serial);
+    put_request(out, &name, &key, &serial[..size]);
     Output::Octets(n)
 }

@@ -15,7 +15,7 @@
 #![tactic(auto)]
 
 ghost use Rattle.std.specs.Prelude.{◌≤◌, length};
-ghost use Rattle.desk_intake.specs.Read.{WasRead};
+ghost use Rattle.desk_intake.specs.Read.{Onward, WasRead};
 ghost use Rattle.cache_line.specs.Input.{cache_room_least};
 ghost use Rattle.cache_line.specs.SizeLaws.{line_most, cache_most};
 ghost use Rattle.room.specs.Answers.{Answers, Inside};
@@ -23,6 +23,47 @@ ghost use Rattle.room.specs.Answers.{Answers, Inside};
 use cache_line::{CACHE, LINE, ROOM, Reply};
 use desk_intake::Input;
 use std::io;
+use std::io::{Eprint, Read};
+
+// Tells on standard error that a read failed, and in the system's words how. Where that cannot be
+// written, nobody is left to be told.
+fn tell_failure(rt: &impl Eprint, error: io::Error) {
+    let _ = eprintln!(rt; "room: standard input: {error}");
+}
+
+// Reads once more, and keeps what came after the octets that are kept.
+fn read_more<R: Read>(rt: &impl Eprint, reader: &mut R, space: &mut [u8], done: usize) -> Input
+    ensures { Onward space.old done space.new result }
+{
+    let mut chunk = [0u8; 4096];
+    match reader.read(&mut chunk) {
+        Ok(0) => Input::End(done),
+        Ok(n) => {
+            let next = desk_intake::keep(space, done, &chunk[..n]);
+            Input::More(next)
+        }
+        Err(error) => {
+            tell_failure(rt, error);
+            Input::Failed
+        }
+    }
+}
+
+// Reads to the end. A proved loop has to end, so it counts its turns, up to a number that no run
+// reaches.
+fn read_all<R: Read>(rt: &impl Eprint, reader: &mut R, space: &mut [u8]) -> Input
+    ensures { WasRead space.new result }
+{
+    let mut done = 0;
+    for _ in 0..u64::MAX {
+        match read_more(rt, reader, space, done) {
+            Input::More(next) => done = next,
+            Input::End(n) => return Input::End(n),
+            Input::Failed => return Input::Failed,
+        }
+    }
+    Input::Failed
+}
 
 // Answers the input that was read, or an empty one where reading failed. In a space with room enough, and
 // buffers with room for every answer, the answer is that to the whole input, and all of it is there.
@@ -55,6 +96,6 @@ fn say_input(rt: &impl Print, space: &[u8], input: Input) -> io::Result<()>
 
 fn main(rt: HostRuntime) -> io::Result<()> {
     let mut space = [0u8; ROOM];
-    let input = desk_intake::read_all(&rt, "room", &mut rt.stdin(), &mut space);
+    let input = read_all(&rt, &mut rt.stdin(), &mut space);
     say_input(&rt, &space, input)
 }

@@ -21,7 +21,7 @@ fn say_filed(rt: &impl Print, filed: Filed) -> io::Result<()> {
             say::say_octets(rt, n as u64, 1)?;
             say::say(rt, b" ")
         }
-        Err(unfiled) => say_number(rt, unfiled.number() as u64),
+        Err(unfiled) => say_number(rt, cache_file::number_of(unfiled) as u64),
     }
 }
 

@@ -6,5 +6,5 @@ use lib.ListN.{drop}
 use Rattle.answer.specs.Card.{all_zero}
 use Rattle.answer.proofs.cards.each_zero.Given as goal
 
-abbrev pub invariant-loop-octet : goal.invariant-loop-octet
-invariant-loop-octet l = all_zero l.s ≡ cond l.zero (all_zero (drop l.octet-index l.s)) false
+abbrev pub invariant-loop-i : goal.invariant-loop-i
+invariant-loop-i l = all_zero l.s ≡ cond l.zero (all_zero (drop l.i l.s)) false

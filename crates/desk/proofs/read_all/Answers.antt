@@ -1,9 +1,9 @@
--- `desk_intake::reading::read_all` meets its contract: before the first read nothing is kept, and each read keeps what came.
+-- `desk::read_all` meets its contract: before the first read nothing is kept, and each read keeps what came.
 -- Assumes nothing.
 use Rattle.std.proofs.Common.{[]}
 use Rattle.desk_intake.specs.KeptLaws.{holds_nothing}
 use Rattle.desk_intake.specs.ReadLaws.{went_on, ended}
-use Rattle.desk_intake.proofs.reading.read_all.Goals as goal
+use Rattle.desk.proofs.read_all.Goals as goal
 
 pub loop-init : goal.loop-init
 loop-init g c = ([], holds_nothing _)

@@ -1,0 +1,7 @@
+-- The loop of `desk::read_all`: the first `done` octets of the space are what is kept of an input.
+use Rattle.std.proofs.Common.{ℕ, List}
+use Rattle.desk_intake.specs.Kept.{Holds}
+use Rattle.desk.proofs.read_all.Given as goal
+
+abbrev pub invariant-loop : goal.invariant-loop
+invariant-loop g l = (i : List ℕ) × Holds l.space l.done i
